@@ -1,0 +1,1 @@
+//! The digits of an IMSI.
