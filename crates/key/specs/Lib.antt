@@ -1,2 +1,4 @@
 pub mod Refusals
 pub mod Keys
+pub mod Figures
+pub mod Reads

@@ -7,12 +7,15 @@ mod reading;
 mod refusal;
 mod tmsi;
 
+pub use digits::ImsiDisplay;
 pub use hlr_id::HlrId;
 pub use identity::ImsiKey;
 pub use identity::Key;
 pub use identity::TmsiKey;
 pub use imsi::IMSI_LIMIT;
 pub use imsi::Imsi;
+pub use reading::big_endian;
+pub use reading::read_key;
 pub use refusal::Refusal;
 pub use tmsi::TMSI_LIMIT;
 pub use tmsi::Tmsi;

@@ -1,1 +1,35 @@
-//! Reading.
+//! Numbers and keys from the front of bytes, the highest byte first.
+ghost use mathlib.Core.Path.{_≡_};
+ghost use Prim.Native.Nat.{ℕ, _%_, _<_, _≤_, _^_};
+ghost use lib.ListN.{length};
+ghost use Rattle.std.specs.shelf.Digits.{number};
+ghost use Rattle.key.specs.Reads.{by-number, key-read};
+use crate::identity::Key;
+use crate::refusal::Refusal;
+
+/// The number that the bytes write; of more than eight bytes, what 64 bits hold of it.
+pub fn big_endian(bytes: &[u8]) -> u64
+    ensures is { λ r. ⌜ r ≡ number 256 (now (bytes .entry)) % 2 ^ 64 ⌝ }
+    ensures whole { λ r. ⌜ (length (now (bytes .entry)) ≤ 8 → r ≡ number 256 (now (bytes .entry))) ⌝ }
+    ensures below { λ r. ⌜ (length (now (bytes .entry)) ≤ 8 → r < 256 ^ length (now (bytes .entry))) ⌝ }
+{
+    let mut number: u64 = 0;
+    for byte in bytes {
+        number = number.wrapping_mul(256).wrapping_add(*byte as u64);
+    }
+    number
+}
+
+/// The key at the front of the input, which may go on after it.
+pub fn read_key<K: Key<LIMIT>, const LIMIT: u64>(input: &[u8]) -> Result<K, Refusal>
+    ensures { λ r. ⌜ by-number (K·Key .number) r ≡ key-read (K·Key .octets) LIMIT (now (input .entry)) ⌝ }
+{
+    let octets = K::octets();
+    if input.len() < octets {
+        return Err(Refusal::InputTooShort);
+    }
+    match K::from_number(big_endian(&input[0..octets])) {
+        Some(k) => Ok(k),
+        None => Err(Refusal::OutOfRange),
+    }
+}
