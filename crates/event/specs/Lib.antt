@@ -1,0 +1,4 @@
+pub mod Layout
+pub mod Decoding
+pub mod Seen
+pub mod Operands
