@@ -147,3 +147,12 @@ operand-reads w i n s t is l =
       ap (λ x. number 256 (take w x)) is ∙ ap (λ m. number 256 (take m (figures 256 w n ++ t))) (sym long) ∙ ap (number 256) (take-append-seam (figures 256 w n) t) ∙ number-figures 256 w n (omega arith) l,
       sym (drop-drop w i s) ∙ ap (drop w) is ∙ ap (λ m. drop m (figures 256 w n ++ t)) (sym long) ∙ drop-append-seam (figures 256 w n) t,
     )
+
+-- four and eight bytes, each by its place
+pub four-bytes : (n : ℕ) → figures 256 4 n ≡ n / 16777216 % 256 ∷ n / 65536 % 256 ∷ n / 256 % 256 ∷ n % 256 ∷ []
+unfolding figures
+four-bytes n = simp div-div-eq-div-mul
+
+pub eight-bytes : (n : ℕ) → figures 256 8 n ≡ n / 72057594037927936 % 256 ∷ n / 281474976710656 % 256 ∷ n / 1099511627776 % 256 ∷ n / 4294967296 % 256 ∷ n / 16777216 % 256 ∷ n / 65536 % 256 ∷ n / 256 % 256 ∷ n % 256 ∷ []
+unfolding figures
+eight-bytes n = simp div-div-eq-div-mul
