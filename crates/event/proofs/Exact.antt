@@ -184,12 +184,14 @@ under-rest [] ok = tt
 under-rest (b ∷ s) ok = ok .1
 
 stands : (s : List ℕ) → Under 256 s → Stands s (decoded s)
+unfolding decoded
 stands s ok =
     cond-both (ltb (length s) 1) _ _ (Stands s) (λ t. tt) (λ f.
     stands-coded s (drop 1 s) (getD s 0 0) (under-rest s ok) (headed s (ltb-false (length s) 1 f)))
 
 -- what stands there is read
 coded : (s ops : List ℕ) (code : ℕ) → s ≡ code ∷ ops → decoded s ≡ read-coded code ops
+unfolding decoded
 coded s ops code is = ap decoded is ∙ rw (le-ltb (length (code ∷ ops)) 1 (omega arith))
 
 reads-form : (e : Event) (s rest : List ℕ) → s ≡ form e ++ rest → InRange e → decoded s ≡ found e

@@ -1,6 +1,6 @@
 -- The numbers of an answer, case by case, and its sixteen bytes. Assumes nothing.
 use mathlib.Core.Bool.{Bool, true, false, cond}
-use mathlib.Core.List.{List, _∷_, _++_}
+use mathlib.Core.List.{List, [], _∷_, _++_}
 use Prim.Native.Nat.{ℕ, _+_}
 use lib.Dec.{ltb}
 use lib.ListN.{length, drop}
@@ -56,11 +56,13 @@ subject-number Nobody = 0
 subject-number (Subscriber imsi) = imsi
 subject-number (Records count) = count
 
--- reply, handling, kind opened, ignored groups, dialogue in four bytes, subject in eight
+-- reply, handling, kind opened, ignored groups
+abbrev pub answer-head : Answer → List ℕ
+answer-head a = reply-number (a .reply) ∷ handling-number (a .handling) ∷ opened-number (a .opened) ∷ ignored-number (a .ignored) ∷ []
+
+-- then the dialogue in four bytes and the subject in eight
 abbrev pub answer-bytes : Answer → List ℕ
-answer-bytes a =
-    reply-number (a .reply) ∷ handling-number (a .handling) ∷ opened-number (a .opened) ∷ ignored-number (a .ignored)
-    ∷ (in-bytes 4 (dialogue-shown (a .opened)) ++ in-bytes 8 (subject-number (a .subject)))
+answer-bytes a = answer-head a ++ (in-bytes 4 (dialogue-shown (a .opened)) ++ in-bytes 8 (subject-number (a .subject)))
 
 -- an area after the answer is written to its front; one that is too short is as it was
 abbrev pub written-into : List ℕ → Answer → List ℕ

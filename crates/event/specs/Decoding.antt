@@ -78,7 +78,7 @@ read-coded code ops =
     (cond (eqb code 14) (found restart)
     (refused UnknownCode))))))))))))))
 
-abbrev pub decoded : List ℕ → Reading
+unfoldable pub decoded : List ℕ → Reading
 decoded s = cond (ltb (length s) 1) (refused UnknownCode) (read-coded (getD s 0 0) (drop 1 s))
 
 -- the input begins with the n bytes of an event within its ranges, and anything may follow

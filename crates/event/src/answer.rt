@@ -5,7 +5,7 @@ ghost use lib.Dec.{ltb};
 ghost use lib.ListN.{length};
 ghost use Rattle.std.specs.declared.result.Result.the-variants.{Ok, Err};
 ghost use Rattle.key.specs.declared.refusal.Refusal.the-variants.{AreaTooShort};
-ghost use Rattle.event.specs.Answers.{reply-number, handling-number, kind-number, ignored-number, opened-number, dialogue-shown, subject-number, answer-bytes, written-into};
+ghost use Rattle.event.specs.Answers.{reply-number, handling-number, kind-number, ignored-number, opened-number, dialogue-shown, subject-number, answer-head, answer-bytes, written-into};
 use key::Refusal;
 
 /// The bytes of an answer.
@@ -150,14 +150,25 @@ fn shown(opened: Option<Opened>) -> (u8, u32)
 }
 
 impl Answer {
+    /// The four bytes that an answer begins with.
+    fn head(self) -> [u8; 4]
+        ensures { λ r. ⌜ r ≡ answer-head self ⌝ }
+    {
+        let (kind, _) = shown(self.opened);
+        [
+            self.reply.number(),
+            self.handling.number(),
+            kind,
+            self.ignored.number(),
+        ]
+    }
+
     /// The answer in bytes, numbers with the highest byte first.
     pub fn bytes(self) -> [u8; 16]
         ensures { λ r. ⌜ r ≡ answer-bytes self ⌝ }
     {
-        let (kind, dialogue) = shown(self.opened);
-        let reply = self.reply.number();
-        let handling = self.handling.number();
-        let ignored = self.ignored.number();
+        let (_, dialogue) = shown(self.opened);
+        let [reply, handling, kind, ignored] = self.head();
         let [a, b, c, d] = dialogue.to_be_bytes();
         let [s, t, u, v, w, x, y, z] = self.subject.number().to_be_bytes();
         [

@@ -142,15 +142,22 @@ fn parse(input: &[u8]) -> Result<Event<'_>, Refusal>
     read_coded(input[0], &input[1..])
 }
 
+/// The event at the front of the input with its length.
+fn read_front(input: &[u8]) -> Result<Decoded<'_>, Refusal>
+    ensures { λ r. ⌜ reading r ≡ decoded (now (input .entry)) ⌝ }
+{
+    let event = parse(input)?;
+    let length = event.length();
+    Ok(Decoded { event, length })
+}
+
 /// The event at the front of the input. It is read exactly where the input begins with that event's bytes;
 /// what follows them is not read.
 pub fn decode(input: &[u8]) -> Result<Decoded<'_>, Refusal>
     ensures answer { λ r. ⌜ reading r ≡ decoded (now (input .entry)) ⌝ }
     ensures exactly_laid { λ r. ⌜ ExactlyLaid (now (input .entry)) (reading r) ⌝ }
 {
-    let event = parse(input)?;
-    let length = event.length();
-    Ok(Decoded { event, length })
+    read_front(input)
 }
 
 /// Bytes have at most one reading, and it is the event whose form they begin with.

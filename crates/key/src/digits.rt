@@ -1,7 +1,7 @@
 //! The digits of an IMSI, and whether they begin with given ones.
 ghost use mathlib.Core.Path.{_≡_};
 ghost use mathlib.Core.Bool.{cond};
-ghost use Prim.Native.Nat.{ℕ, _^_};
+ghost use Prim.Native.Nat.{_-_, _/_, _^_};
 ghost use Rattle.std.specs.declared.option.Option.the-variants.{Some, None};
 ghost use Rattle.key.specs.Figures.{begins, is-hlr-id};
 ghost use Rattle.key.specs.Reads.{by-digits};
@@ -32,12 +32,19 @@ impl HlrId {
 }
 
 impl Imsi {
+    /// The number that as many leading digits as the HLR-Id has write.
+    fn leading(self, id: HlrId) -> u64
+        ensures { λ r. ⌜ r ≡ self .number / 10 ^ (15 - id .digits) ⌝ }
+    {
+        let others = (IMSI_DIGITS - id.digits) as u32;
+        self.number() / 10u64.pow(others)
+    }
+
     /// Whether the leading digits are those of the HLR-Id.
     pub fn begins_with(self, id: HlrId) -> bool
         ensures { λ r. ⌜ r ≡ begins (self .number) (id .digits) (id .value) ⌝ }
     {
-        let others = (IMSI_DIGITS - id.digits) as u32;
-        self.number() / 10u64.pow(others) == id.value
+        self.leading(id) == id.value
     }
 }
 

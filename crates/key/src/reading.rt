@@ -1,11 +1,18 @@
 //! Numbers and keys from the front of bytes, the highest byte first.
 ghost use mathlib.Core.Path.{_≡_};
-ghost use Prim.Native.Nat.{ℕ, _%_, _<_, _≤_, _^_};
+ghost use Prim.Native.Nat.{_+_, _*_, _%_, _<_, _≤_, _^_};
 ghost use lib.ListN.{length};
 ghost use Rattle.std.specs.shelf.Digits.{number};
 ghost use Rattle.key.specs.Reads.{by-number, key-read};
 use crate::identity::Key;
 use crate::refusal::Refusal;
+
+/// A number with one more byte behind it, as far as 64 bits hold it.
+fn with_byte(number: u64, byte: u8) -> u64
+    ensures { λ r. ⌜ r ≡ (number * 256 + byte) % 2 ^ 64 ⌝ }
+{
+    number.wrapping_mul(256).wrapping_add(byte as u64)
+}
 
 /// The number that the bytes write; of more than eight bytes, what 64 bits hold of it.
 pub fn big_endian(bytes: &[u8]) -> u64
@@ -15,7 +22,7 @@ pub fn big_endian(bytes: &[u8]) -> u64
 {
     let mut number: u64 = 0;
     for byte in bytes {
-        number = number.wrapping_mul(256).wrapping_add(*byte as u64);
+        number = with_byte(number, *byte);
     }
     number
 }
