@@ -1,0 +1,4 @@
+//! Events in bytes, tried in tables: both ends of every range, every truncation, and bytes that follow.
+mod ranges;
+mod samples;
+mod truncations;
