@@ -9,9 +9,9 @@ use crate::events::GROUP_LENGTH;
 use crate::operands::Contact;
 use crate::operands::read_contact;
 use crate::operands::read_imsi;
-use crate::operands::read_number;
 use key::HlrId;
 use key::Refusal;
+use key::number_at;
 
 /// An event, and how many bytes it took.
 #[derive(Drop)]
@@ -34,7 +34,7 @@ fn read_access(operands: &[u8]) -> Result<Event<'_>, Refusal>
         return Err(Refusal::InputTooShort);
     }
     let Contact { imsi, auth, msc } = read_contact(operands)?;
-    let area = read_number(operands, 10, 2) as u16;
+    let area = number_at(operands, 10, 2) as u16;
     Ok(Event::Access {
         imsi,
         auth,
@@ -50,7 +50,7 @@ fn read_registration(operands: &[u8]) -> Result<Event<'_>, Refusal>
         return Err(Refusal::InputTooShort);
     }
     let Contact { imsi, auth, msc } = read_contact(operands)?;
-    let area = read_number(operands, 10, 2) as u16;
+    let area = number_at(operands, 10, 2) as u16;
     Ok(Event::Registration {
         imsi,
         auth,
@@ -65,8 +65,8 @@ fn read_insert(operands: &[u8]) -> Result<Event<'_>, Refusal>
     if operands.len() < 5 {
         return Err(Refusal::InputTooShort);
     }
-    let dialogue = read_number(operands, 0, 4) as u32;
-    let count = read_number(operands, 4, 1) as u8;
+    let dialogue = number_at(operands, 0, 4) as u32;
+    let count = number_at(operands, 4, 1) as u8;
     if count < 1 || count > 6 {
         return Err(Refusal::OutOfRange);
     }
@@ -87,8 +87,8 @@ fn read_end(operands: &[u8]) -> Result<Event<'_>, Refusal>
     if operands.len() < 5 {
         return Err(Refusal::InputTooShort);
     }
-    let dialogue = read_number(operands, 0, 4) as u32;
-    let outcome = read_number(operands, 4, 1) as u8;
+    let dialogue = number_at(operands, 0, 4) as u32;
+    let outcome = number_at(operands, 4, 1) as u8;
     if outcome > 1 {
         return Err(Refusal::OutOfRange);
     }
@@ -101,8 +101,8 @@ fn read_reset(operands: &[u8]) -> Result<Event<'_>, Refusal>
     if operands.len() < 9 {
         return Err(Refusal::InputTooShort);
     }
-    let digits = read_number(operands, 0, 1) as u8;
-    let value = read_number(operands, 1, 8);
+    let digits = number_at(operands, 0, 1) as u8;
+    let value = number_at(operands, 1, 8);
     match HlrId::new(digits, value) {
         Some(_) => Ok(Event::Reset { digits, value }),
         None => Err(Refusal::OutOfRange),

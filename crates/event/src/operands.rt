@@ -1,14 +1,11 @@
 //! The operands of an event, from the bytes after its code.
 ghost use mathlib.Core.Path.{_≡_};
-ghost use Prim.Native.Nat.{ℕ, _+_, _<_, _≤_, _^_};
-ghost use lib.ListN.{length};
-ghost use Rattle.key.specs.Figures.{number-at};
 ghost use Rattle.event.specs.Operands.{imsi-read, contact-read};
 use key::IMSI_LIMIT;
 use key::Imsi;
 use key::ImsiKey;
 use key::Refusal;
-use key::big_endian;
+use key::number_at;
 use key::read_key;
 
 /// What every contact of a handset begins with: who, whether authentication passed, through which exchange.
@@ -17,16 +14,6 @@ pub struct Contact {
     pub imsi: u64,
     pub auth: u8,
     pub msc: u8,
-}
-
-/// The number in so many bytes from a place on.
-pub fn read_number(operands: &[u8], at: usize, width: usize) -> u64
-    requires few { ⌜ width ≤ 8 ⌝ }
-    requires within { ⌜ at + width ≤ length (now operands) ⌝ }
-    ensures is { λ r. ⌜ r ≡ number-at width at (now (operands .entry)) ⌝ }
-    ensures below { λ r. ⌜ r < 256 ^ width ⌝ }
-{
-    big_endian(&operands[at..at + width])
 }
 
 /// The IMSI that the operands begin with, as its number.
@@ -45,8 +32,8 @@ pub fn read_contact(operands: &[u8]) -> Result<Contact, Refusal>
         return Err(Refusal::InputTooShort);
     }
     let imsi = read_imsi(operands)?;
-    let auth = read_number(operands, 8, 1) as u8;
-    let msc = read_number(operands, 9, 1) as u8;
+    let auth = number_at(operands, 8, 1) as u8;
+    let msc = number_at(operands, 9, 1) as u8;
     if auth > 1 {
         return Err(Refusal::OutOfRange);
     }

@@ -3,19 +3,19 @@ use mathlib.Core.Path.{_≡_, refl, sym, ap, _∙_}
 use mathlib.Core.Logic.{_⊎_, inl, inr}
 use mathlib.Core.Bool.{Bool, true, false}
 use mathlib.Core.List.{List, [], _∷_, _++_, append-assoc}
-use Prim.Native.Nat.{ℕ, zero, suc, _+_, _-_, _*_, _/_, _%_, _^_, _<_, _≤_}
+use Prim.Native.Nat.{ℕ, zero, suc, _+_, _-_, _*_, _/_, _%_, _^_, _<_, _≤_, min}
 use native.Mathlib.Omega.{arith}
 use native.Mathlib.Nat.{pow-zero, pow-suc, pow-succ', div-one, div-lt-iff-lt-mul, div-add-mod', div-div-eq-div-mul}
 use lib.Arith.{digits-div, digits-mod}
 use lib.Dec.{eqb}
 use lib.ListN.{length, getD, take, drop, length-append, length-drop}
 use lib.Pow.{pow-add}
-use lib.Seq.{take-append-le, take-append-seam, drop-append-seam, drop-drop}
+use lib.Seq.{take-nil, take-append-le, take-append-seam, drop-append-seam, drop-drop}
 use borrow.Author.Tests.{eq-eqb, ne-eqb}
 use Rattle.std.specs.shelf.Digits.{number, numberAfter, Under}
 use Rattle.std.proofs.shelf.Digits.{number-push, number-lt}
-use Rattle.std.proofs.shelf.Lists.{take-all, take-append-drop, length-take-le}
-use Rattle.std.proofs.shelf.Tests.{and-parts, and-from, cases-bool, cases-eq, eqb-true, both-ways}
+use Rattle.std.proofs.shelf.Lists.{take-all, drop-all, take-append-drop, length-take-le}
+use Rattle.std.proofs.shelf.Tests.{and-parts, and-from, cases-bool, cases-eq, cases-lt, eqb-true, both-ways}
 use Rattle.key.specs.Figures.{figures, number-at, alike, begins, imsi-digits}
 
 append-nil : (xs : List ℕ) → xs ++ [] ≡ xs
@@ -125,12 +125,29 @@ bytes-drop (suc n) (b ∷ s) ok = bytes-drop n s (ok .1)
 bytes-part : (w i : ℕ) (s : List ℕ) → Under 256 s → Under 256 (take w (drop i s))
 bytes-part w i s ok = bytes-take w (drop i s) (bytes-drop i s ok)
 
-length-part : (w i : ℕ) (s : List ℕ) → i + w ≤ length s → length (take w (drop i s)) ≡ w
+pub length-part : (w i : ℕ) (s : List ℕ) → i + w ≤ length s → length (take w (drop i s)) ≡ w
 length-part w i s l = length-take-le w (drop i s) (omega (arith, length-drop i s))
 
 pub number-at-below : (w i : ℕ) (s : List ℕ) → Under 256 s → i + w ≤ length s → number-at w i s < 256 ^ w
 unfolding number-at
 number-at-below w i s ok l = rw (length-part w i s l) at (number-lt 256 (take w (drop i s)) (bytes-part w i s ok))
+
+-- a part that is cut at the end of the bytes
+pub cut-part : (w i start end : ℕ) (s : List ℕ) → start ≡ min i (length s) → end ≡ min (i + w) (length s) → take (end - start) (drop start s) ≡ take w (drop i s)
+cut-part w i start end s first last =
+    elim (cases-lt (length s) (i + w)) [
+      | inl past ↦
+          elim (cases-lt (length s) i) [
+            | inl gone ↦
+                ap (λ n. take n (drop start s)) (let e : end - start ≡ 0 = omega arith in e) ∙ sym (ap (take w) (drop-all i s (omega arith)) ∙ take-nil w)
+            | inr here ↦
+                let at : start ≡ i = omega arith in
+                ap (λ n. take (end - start) (drop n s)) at ∙ take-all (end - start) (drop i s) (omega (arith, length-drop i s)) ∙ sym (take-all w (drop i s) (omega (arith, length-drop i s)))
+          ]
+      | inr within ↦
+          let at : start ≡ i = omega arith in
+          ap (λ n. take (end - start) (drop n s)) at ∙ ap (λ n. take n (drop i s)) (let e : end - start ≡ w = omega arith in e)
+    ]
 
 -- an operand stands at i, and what follows it
 pub operand-stands : (w i : ℕ) (s : List ℕ) → Under 256 s → i + w ≤ length s → drop i s ≡ figures 256 w (number-at w i s) ++ drop (i + w) s

@@ -15,6 +15,7 @@ pub use identity::TmsiKey;
 pub use imsi::IMSI_LIMIT;
 pub use imsi::Imsi;
 pub use reading::big_endian;
+pub use reading::number_at;
 pub use reading::read_key;
 pub use refusal::Refusal;
 pub use tmsi::TMSI_LIMIT;

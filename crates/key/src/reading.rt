@@ -3,6 +3,7 @@ ghost use mathlib.Core.Path.{_≡_};
 ghost use Prim.Native.Nat.{_+_, _*_, _%_, _<_, _≤_, _^_};
 ghost use lib.ListN.{length};
 ghost use Rattle.std.specs.shelf.Digits.{number};
+ghost use Rattle.key.specs.Figures.{number-at};
 ghost use Rattle.key.specs.Reads.{by-number, key-read};
 use crate::identity::Key;
 use crate::refusal::Refusal;
@@ -25,6 +26,17 @@ pub fn big_endian(bytes: &[u8]) -> u64
         number = with_byte(number, *byte);
     }
     number
+}
+
+/// The number in so many bytes from a place on, as far as the bytes go and 64 bits hold it.
+pub fn number_at(bytes: &[u8], at: usize, width: usize) -> u64
+    ensures is { λ r. ⌜ r ≡ number-at width at (now (bytes .entry)) % 2 ^ 64 ⌝ }
+    ensures whole { λ r. ⌜ (at + width ≤ length (now (bytes .entry)) → width ≤ 8 → r ≡ number-at width at (now (bytes .entry))) ⌝ }
+    ensures below { λ r. ⌜ (at + width ≤ length (now (bytes .entry)) → width ≤ 8 → r < 256 ^ width) ⌝ }
+{
+    let start = at.min(bytes.len());
+    let end = at.saturating_add(width).min(bytes.len());
+    big_endian(&bytes[start..end])
 }
 
 /// The key at the front of the input, which may go on after it.
