@@ -1,2 +1,4 @@
 pub mod Zeros
 pub mod Progress
+pub mod Dropped
+pub mod Listing

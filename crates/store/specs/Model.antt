@@ -10,7 +10,7 @@ use Rattle.std.specs.declared.result.Result.{Result}
 use Rattle.std.specs.declared.result.Result.the-variants.{Ok, Err}
 use Rattle.std.specs.declared.option.Option.the-variants.{Some, None}
 use Rattle.key.specs.declared.refusal.Refusal.{Refusal}
-use Rattle.key.specs.declared.refusal.Refusal.the-variants.{StoreFull}
+use Rattle.key.specs.declared.refusal.Refusal.the-variants.{StoreFull, BackUpTooSmall}
 
 -- the key numbers
 abbrev pub keys : {V : Type 0} → List (ℕ × V) → List ℕ
@@ -116,3 +116,19 @@ each f (e ∷ es) = (e .0, f (e .0) (e .1)) ∷ each f es
 abbrev pub each-at : {V : Type 0} → (ℕ → V → V) → ℕ → Option V → Option V
 each-at f k None = None
 each-at f k (Some v) = Some (f k v)
+
+-- of the rows or nodes handed in, how many are used
+abbrev pub capped : ℕ → ℕ
+capped n = cond (ltb n 65536) n 65536
+
+-- what a put at k would answer
+abbrev pub room-answer : {V : Type 0} → ℕ → List (ℕ × V) → ℕ → Result (Unit {0}) Refusal
+room-answer room es k = cond (takes room es k) (Ok tt) (Err StoreFull)
+
+-- what a copy of es into a store of that room answers: it may have no more entries than the room
+abbrev pub copy-answer : {V : Type 0} → ℕ → List (ℕ × V) → Result (Unit {0}) Refusal
+copy-answer room es = cond (ltb room (length es)) (Err BackUpTooSmall) (Ok tt)
+
+-- what the store holds then, where it held old
+abbrev pub copied : {V : Type 0} → ℕ → List (ℕ × V) → List (ℕ × V) → List (ℕ × V)
+copied room es old = cond (ltb room (length es)) old es

@@ -1,0 +1,61 @@
+//! Finding an open dialogue, and letting it meet what comes.
+ghost use mathlib.Core.Path.{_≡_};
+ghost use Rattle.store.specs.Model.{at, any};
+ghost use Rattle.dialogue.specs.Dialogues.{comes};
+ghost use Rattle.dialogue.specs.Listed.{listed, on, met-at, met-on, OnImsi, PlaceSays};
+use crate::row::Coming;
+use crate::row::Dialogue;
+use crate::row::Met;
+use crate::table::Table;
+use event::Kind;
+
+impl Table {
+    /// Where the open dialogue of the number stands.
+    fn place(&self, number: u32) -> Option<usize>
+        ensures { λ r. ⌜ PlaceSays r (now (self .entry) .rows) number ⌝ }
+    {
+        for i in 0..64 {
+            let row = self.rows[i];
+            if row.has_number(number) {
+                return Some(i);
+            }
+        }
+        None
+    }
+
+    /// The open dialogue of the number.
+    pub fn find(&self, number: u32) -> Option<Dialogue>
+        ensures found { λ r. ⌜ r ≡ at (listed (now (self .entry) .rows)) number ⌝ }
+        ensures on_imsi { λ r. ⌜ OnImsi r ⌝ }
+    {
+        match self.place(number) {
+            Some(i) => Some(self.rows[i]),
+            None => None,
+        }
+    }
+
+    /// Whether a dialogue of the kind is open for the subscriber.
+    pub fn has(&self, imsi: u64, kind: Kind) -> bool
+        ensures { λ r. ⌜ r ≡ any (on imsi kind) (listed (now (self .entry) .rows)) ⌝ }
+    {
+        for i in 0..64 {
+            let row = self.rows[i];
+            if row.is_on(imsi, kind) {
+                return true;
+            }
+        }
+        false
+    }
+
+    /// Lends the dialogue of the number to what comes for it.
+    pub fn meet(&mut self, number: u32, coming: Coming<'_>) -> Met
+        ensures answer { λ r. ⌜ r ≡ met-at (at (listed (now (self .entry) .rows)) number) (comes (coming .entry)) ⌝ }
+        ensures dialogues { λ _. ⌜ listed (now (self .exit) .rows) ≡ met-on (listed (now (self .entry) .rows)) number (comes (coming .entry)) ⌝ }
+        ensures last { λ _. ⌜ now (self .exit) .last ≡ now (self .entry) .last ⌝ }
+    {
+        match self.place(number) {
+            Some(i) => self.rows[i].meet(coming),
+            None => Met::Refused,
+        }
+    }
+}
