@@ -2,3 +2,4 @@ pub mod Zeros
 pub mod Progress
 pub mod Dropped
 pub mod Listing
+pub mod Refusing

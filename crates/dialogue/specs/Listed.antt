@@ -17,7 +17,7 @@ use Rattle.event.specs.declared.answer.Kind.the-variants.{RestoreData}
 use Rattle.dialogue.specs.declared.row.Stage.the-variants.{Gone}
 use Rattle.dialogue.specs.declared.row.Dialogue.{Dialogue}
 use Rattle.dialogue.specs.declared.row.Met.{Met}
-use Rattle.dialogue.specs.declared.row.Met.the-variants.{Refused}
+use Rattle.dialogue.specs.declared.row.Met.the-variants.{Refused, Sent, Withdrawn, Taken, Rejected, Ended}
 use Rattle.dialogue.specs.Data.{no-data}
 use Rattle.dialogue.specs.Dialogues.{Comes, is-gone, same-kind, has-number, outcome, dialogue-after, opening}
 
@@ -78,9 +78,17 @@ met-at (Some d) c = outcome d c
 abbrev pub kept-open : Open → ℕ → Dialogue → Open
 kept-open es n d = cond (is-gone (d .stage)) (without es n) (with-entry es n d)
 
+abbrev pub unless-refused : Met → Open → Open → Open
+unless-refused Refused es after = es
+unless-refused Sent es after = after
+unless-refused Withdrawn es after = after
+unless-refused (Taken ignored) es after = after
+unless-refused Rejected es after = after
+unless-refused Ended es after = after
+
 abbrev pub met-by : Open → ℕ → Option Dialogue → Comes → Open
 met-by es n None c = es
-met-by es n (Some d) c = kept-open es n (dialogue-after d c)
+met-by es n (Some d) c = unless-refused (outcome d c) es (kept-open es n (dialogue-after d c))
 
 abbrev pub met-on : Open → ℕ → Comes → Open
 met-on es n c = met-by es n (at es n) c

@@ -4,7 +4,8 @@ use native.Mathlib.Omega.{arith}
 use lib.ListN.{length, length-set, getD}
 use Rattle.dialogue.specs.Dialogues.{comes}
 use Rattle.dialogue.specs.Listed.{free-row, listed, kept-open, met-at, met-by}
-use Rattle.dialogue.proofs.Listing.{num-of, num-in, num-put, listed-put, is-live}
+use Rattle.dialogue.proofs.Listing.{num-of, num-in, num-put, listed-put, listed-rises, is-live}
+use Rattle.dialogue.proofs.Refusing.{kept-unless-refused}
 use Rattle.dialogue.proofs.table.Table.meet.Needs as need
 
 pub ghost-self : need.ghost-self
@@ -29,6 +30,6 @@ returns-in-Some c =
     let put = listed-put (c .meet .last .self) (t .rows) (t .last) (c .in-Some .i) (num-of (t .rows) (t .last) (t .sound)) within (live .0) number in
     record {
       answer = c .meet .ensures .answer ∙ sym (ap (λ d. met-at d (comes (c .args .coming))) (at .2));
-      dialogues = put ∙ ap (λ n. kept-open (listed (t .rows)) n (c .meet .last .self)) (number ∙ live .1) ∙ ap (kept-open (listed (t .rows)) (c .args .number)) is ∙ sym (ap (λ d. met-by (listed (t .rows)) (c .args .number) d (comes (c .args .coming))) (at .2));
+      dialogues = put ∙ ap (λ n. kept-open (listed (t .rows)) n (c .meet .last .self)) (number ∙ live .1) ∙ ap (kept-open (listed (t .rows)) (c .args .number)) is ∙ kept-unless-refused (listed (t .rows)) (c .args .number) r (comes (c .args .coming)) (listed-rises (t .rows)) (at .2) (live .0) ∙ sym (ap (λ d. met-by (listed (t .rows)) (c .args .number) d (comes (c .args .coming))) (at .2));
       last = refl;
     }

@@ -1,0 +1,4 @@
+pub mod Records
+pub mod Plans
+pub mod State
+pub mod Steps

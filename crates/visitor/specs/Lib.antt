@@ -1,0 +1,2 @@
+pub mod Invokes
+pub mod Register

@@ -1,0 +1,7 @@
+//! The visitor location register, above any record store.
+mod invoke;
+mod register;
+
+pub use invoke::Handed;
+pub use invoke::Invoke;
+pub use register::Vlr;
