@@ -4,7 +4,6 @@ use mathlib.Core.List.{List}
 use Prim.Native.Nat.{ℕ, _/_}
 use lib.Dec.{eqb}
 use lib.ListN.{length}
-use denote.Ref.{now}
 use Rattle.std.specs.declared.option.Option.{Option}
 use Rattle.std.specs.declared.option.Option.the-variants.{Some, None}
 use Rattle.event.specs.declared.answer.Kind.{Kind}
@@ -27,11 +26,11 @@ pub data Comes : Type 0 where
   insert : (groups : List ℕ) → Comes
   end : Comes
 
-abbrev pub comes : Coming → Comes
-comes Send = send
-comes Withdraw = withdraw
-comes (Insert groups) = insert (now groups)
-comes End = end
+abbrev pub comes : Coming → List ℕ → Comes
+comes Send groups = send
+comes Withdraw groups = withdraw
+comes Insert groups = insert groups
+comes End groups = end
 
 abbrev pub is-gone : Stage → Bool
 is-gone Gone = true

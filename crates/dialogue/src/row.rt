@@ -31,14 +31,14 @@ pub struct Dialogue {
 }
 
 /// What comes for a dialogue.
-#[derive(Drop)]
-pub enum Coming<'a> {
+#[derive(Clone, Copy)]
+pub enum Coming {
     /// Its invoke is sent.
     Send,
     /// Its invoke is withdrawn.
     Withdraw,
     /// A message with groups of subscriber data.
-    Insert(&'a [u8]),
+    Insert,
     End,
 }
 
@@ -67,10 +67,10 @@ impl Stage {
 }
 
 impl Dialogue {
-    /// The stage is matched with what comes here, and nowhere else.
-    pub fn meet(&mut self, coming: Coming<'_>) -> Met
-        ensures answer { λ r. ⌜ r ≡ outcome (now (self .entry)) (comes (coming .entry)) ⌝ }
-        ensures dialogue { λ _. ⌜ now (self .exit) ≡ dialogue-after (now (self .entry)) (comes (coming .entry)) ⌝ }
+    /// The stage is matched with what comes here, and nowhere else. Only a message has groups.
+    pub fn meet(&mut self, coming: Coming, groups: &[u8]) -> Met
+        ensures answer { λ r. ⌜ r ≡ outcome (now (self .entry)) (comes coming (now (groups .entry))) ⌝ }
+        ensures dialogue { λ _. ⌜ now (self .exit) ≡ dialogue-after (now (self .entry)) (comes coming (now (groups .entry))) ⌝ }
     {
         match (self.stage, coming) {
             (Stage::Waiting, Coming::Send) => {
@@ -81,14 +81,14 @@ impl Dialogue {
                 self.stage = Stage::Gone;
                 Met::Withdrawn
             }
-            (Stage::Sent, Coming::Insert(groups)) => match take_message(&mut self.draft, groups) {
+            (Stage::Sent, Coming::Insert) => match take_message(&mut self.draft, groups) {
                 Some(ignored) => Met::Taken(ignored),
                 None => {
                     self.stage = Stage::Rejected;
                     Met::Rejected
                 }
             },
-            (Stage::Rejected, Coming::Insert(_)) => Met::Rejected,
+            (Stage::Rejected, Coming::Insert) => Met::Rejected,
             (Stage::Sent, Coming::End) | (Stage::Rejected, Coming::End) => {
                 self.stage = Stage::Gone;
                 Met::Ended

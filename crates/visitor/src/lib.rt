@@ -1,4 +1,6 @@
 //! The visitor location register, above any record store.
+mod endings;
+mod events;
 mod invoke;
 mod register;
 

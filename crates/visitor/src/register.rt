@@ -20,9 +20,9 @@ pub const LIMIT: u64 = 1_000_000_000_000_000;
 /// A visitor register above a record store.
 #[derive(Drop)]
 pub struct Vlr<S> {
-    store: S,
-    table: Table,
-    several: bool,
+    pub(crate) store: S,
+    pub(crate) table: Table,
+    pub(crate) several: bool,
 }
 
 impl<S: RecordStore<Imsi, Record, LIMIT>> Vlr<S> {
@@ -50,7 +50,7 @@ impl<S: RecordStore<Imsi, Record, LIMIT>> Vlr<S> {
     }
 
     /// Keeps the record, if there is one.
-    fn keep(&mut self, imsi: Imsi, kept: Option<Record>) -> Result<(), Refusal>
+    pub(crate) fn keep(&mut self, imsi: Imsi, kept: Option<Record>) -> Result<(), Refusal>
         ensures table { λ r. ⌜ now (self .exit) .table ≡ now (self .entry) .table ⌝ }
         ensures kept { λ r. ⌜ KeepSays (state entries room (now (self .entry))) (imsi .number) kept r (state entries room (now (self .exit))) ⌝ }
     {
@@ -61,7 +61,7 @@ impl<S: RecordStore<Imsi, Record, LIMIT>> Vlr<S> {
     }
 
     /// Carries a plan out, or turns it down and leaves all as it was.
-    fn carry(&mut self, imsi: Imsi, plan: Plan) -> Result<Answer, Refusal>
+    pub(crate) fn carry(&mut self, imsi: Imsi, plan: Plan) -> Result<Answer, Refusal>
         ensures answer { λ r. ⌜ r ≡ planned-answer (state entries room (now (self .entry))) (imsi .number) plan ⌝ }
         ensures after { λ r. ⌜ state entries room (now (self .exit)) ≡ planned-after (state entries room (now (self .entry))) (imsi .number) plan ⌝ }
     {

@@ -48,13 +48,13 @@ impl Table {
     }
 
     /// Lends the dialogue of the number to what comes for it.
-    pub fn meet(&mut self, number: u32, coming: Coming<'_>) -> Met
-        ensures answer { λ r. ⌜ r ≡ met-at (at (listed (now (self .entry) .rows)) number) (comes (coming .entry)) ⌝ }
-        ensures dialogues { λ _. ⌜ listed (now (self .exit) .rows) ≡ met-on (listed (now (self .entry) .rows)) number (comes (coming .entry)) ⌝ }
+    pub fn meet(&mut self, number: u32, coming: Coming, groups: &[u8]) -> Met
+        ensures answer { λ r. ⌜ r ≡ met-at (at (listed (now (self .entry) .rows)) number) (comes coming (now (groups .entry))) ⌝ }
+        ensures dialogues { λ _. ⌜ listed (now (self .exit) .rows) ≡ met-on (listed (now (self .entry) .rows)) number (comes coming (now (groups .entry))) ⌝ }
         ensures last { λ _. ⌜ now (self .exit) .last ≡ now (self .entry) .last ⌝ }
     {
         match self.place(number) {
-            Some(i) => self.rows[i].meet(coming),
+            Some(i) => self.rows[i].meet(coming, groups),
             None => Met::Refused,
         }
     }

@@ -29,7 +29,7 @@ returns-in-Some c =
     let within : c .in-Some .i < length (t .rows) = omega (arith, at .0, t .size) in
     let put = listed-put (c .meet .last .self) (t .rows) (t .last) (c .in-Some .i) (num-of (t .rows) (t .last) (t .sound)) within (live .0) number in
     record {
-      answer = c .meet .ensures .answer ∙ sym (ap (λ d. met-at d (comes (c .args .coming))) (at .2));
-      dialogues = put ∙ ap (λ n. kept-open (listed (t .rows)) n (c .meet .last .self)) (number ∙ live .1) ∙ ap (kept-open (listed (t .rows)) (c .args .number)) is ∙ kept-unless-refused (listed (t .rows)) (c .args .number) r (comes (c .args .coming)) (listed-rises (t .rows)) (at .2) (live .0) ∙ sym (ap (λ d. met-by (listed (t .rows)) (c .args .number) d (comes (c .args .coming))) (at .2));
+      answer = c .meet .ensures .answer ∙ sym (ap (λ d. met-at d (comes (c .args .coming) (c .args .groups .now))) (at .2));
+      dialogues = put ∙ ap (λ n. kept-open (listed (t .rows)) n (c .meet .last .self)) (number ∙ live .1) ∙ ap (kept-open (listed (t .rows)) (c .args .number)) is ∙ kept-unless-refused (listed (t .rows)) (c .args .number) r (comes (c .args .coming) (c .args .groups .now)) (listed-rises (t .rows)) (at .2) (live .0) ∙ sym (ap (λ d. met-by (listed (t .rows)) (c .args .number) d (comes (c .args .coming) (c .args .groups .now))) (at .2));
       last = refl;
     }

@@ -1,0 +1,58 @@
+//! Saving and reloading at each fill, beside two plain lists.
+use crate::drill::compare;
+use crate::drill::fill_both;
+use crate::drill::number_answered;
+use crate::plain::PlainList;
+use key::Key;
+use std::alloc::Global;
+use std::test::*;
+use store::Backed;
+use store::BackedStore;
+use store::RecordStore;
+
+/// Saves, and compares live store and back-up with the lists for them.
+fn save_both<
+    K: Key<LIMIT>,
+    L: RecordStore<K, u32, LIMIT>,
+    B: RecordStore<K, u32, LIMIT>,
+    const LIMIT: u64,
+>(
+    backed: &mut Backed<L, B>,
+    plain: &PlainList,
+    saved: &mut PlainList,
+    spread: u64,
+) -> Result<(), Fail> {
+    let expected = if plain.count() <= saved.room() {
+        saved.copy_from(plain)?;
+        0
+    } else {
+        10
+    };
+    check_eq(number_answered(backed.save::<K, u32, LIMIT>()), expected).note("save")?;
+    compare(backed, plain, spread)?;
+    compare(backed.back(), saved, spread)
+}
+
+/// At each fill: saves, empties and fills half, and reloads; every step is compared on both sides.
+pub fn save_and_reload<
+    K: Key<LIMIT>,
+    L: RecordStore<K, u32, LIMIT>,
+    B: RecordStore<K, u32, LIMIT>,
+    const LIMIT: u64,
+>(backed: &mut Backed<L, B>, heap: Global, spread: u64) -> Result<(), Fail> {
+    let room = backed.room();
+    let mut plain = PlainList::new(heap, room);
+    let mut saved = PlainList::new(heap, backed.back().room());
+    for fill in 0..=room {
+        fill_both(backed, &mut plain, fill, spread)?;
+        compare(backed.back(), &saved, spread)?;
+        save_both(backed, &plain, &mut saved, spread)?;
+        fill_both(backed, &mut plain, fill / 2, spread)?;
+        compare(backed.back(), &saved, spread)?;
+        backed.reload::<K, u32, LIMIT>();
+        plain.copy_from(&saved)?;
+        compare(backed, &plain, spread)?;
+        compare(backed.back(), &saved, spread)?;
+    }
+    Ok(())
+}

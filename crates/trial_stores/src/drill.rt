@@ -1,0 +1,151 @@
+//! One drill for every record store: at each fill from empty to full, keys are taken, dropped and taken again.
+use crate::plain::PlainList;
+use key::Key;
+use key::Refusal;
+use std::alloc::Global;
+use std::test::*;
+use store::RecordStore;
+
+/// How many keys the drill uses. A prime, so that steps of five come by each of them.
+pub const KEYS: u64 = 13;
+
+/// The key at a place of the drill. The keys are `spread` apart, from 0 on.
+fn key_at<K: Key<LIMIT>, const LIMIT: u64>(place: u64, spread: u64) -> Result<K, Fail> {
+    match K::from_number(place.wrapping_mul(spread)) {
+        Some(k) => Ok(k),
+        None => Err(Fail::new("the drill's keys are spread too far")),
+    }
+}
+
+/// The number of a key that may be there.
+fn number_of<K: Key<LIMIT>, const LIMIT: u64>(k: Option<K>) -> Option<u64> {
+    match k {
+        Some(k) => Some(k.to_number()),
+        None => None,
+    }
+}
+
+/// 0 for what was done, or the refusal's number.
+pub fn number_answered(answer: Result<(), Refusal>) -> u8 {
+    match answer {
+        Ok(()) => 0,
+        Err(refusal) => refusal.number(),
+    }
+}
+
+/// Compares all that the store answers without being changed.
+pub fn compare<K: Key<LIMIT>, S: RecordStore<K, u32, LIMIT>, const LIMIT: u64>(
+    store: &S,
+    plain: &PlainList,
+    spread: u64,
+) -> Result<(), Fail> {
+    check_eq(store.count(), plain.count()).note("count")?;
+    check_eq(store.room(), plain.room()).note("room")?;
+    check_eq(number_of(store.next(&None)), plain.least_from(0)).note("next")?;
+    for place in 0..KEYS {
+        let k: K = key_at(place, spread)?;
+        let number = k.to_number();
+        check_eq(store.find(k), plain.find(number)).note("find")?;
+        let above = plain.least_from(number.wrapping_add(1));
+        check_eq(number_of(store.next(&Some(k))), above).note("next above")?;
+    }
+    Ok(())
+}
+
+/// Puts a record into both, and compares.
+pub fn put_both<K: Key<LIMIT>, S: RecordStore<K, u32, LIMIT>, const LIMIT: u64>(
+    store: &mut S,
+    plain: &mut PlainList,
+    k: K,
+    record: u32,
+    spread: u64,
+) -> Result<(), Fail> {
+    let expected = if plain.put(k.to_number(), record)? {
+        0
+    } else {
+        5
+    };
+    check_eq(number_answered(store.put(k, record)), expected).note("put")?;
+    compare(store, plain, spread)
+}
+
+/// Drops a key from both, and compares.
+pub fn remove_both<K: Key<LIMIT>, S: RecordStore<K, u32, LIMIT>, const LIMIT: u64>(
+    store: &mut S,
+    plain: &mut PlainList,
+    k: K,
+    spread: u64,
+) -> Result<(), Fail> {
+    let expected = plain.remove(k.to_number());
+    check_eq(store.remove(k), expected).note("remove")?;
+    compare(store, plain, spread)
+}
+
+/// Empties both, and takes as many keys as the fill says, in steps of five.
+pub fn fill_both<K: Key<LIMIT>, S: RecordStore<K, u32, LIMIT>, const LIMIT: u64>(
+    store: &mut S,
+    plain: &mut PlainList,
+    fill: usize,
+    spread: u64,
+) -> Result<(), Fail> {
+    store.clear();
+    plain.clear();
+    compare(store, plain, spread)?;
+    for turn in 0..fill {
+        let k: K = key_at((turn as u64).wrapping_mul(5) % KEYS, spread)?;
+        put_both(store, plain, k, (turn % 100) as u32, spread)?;
+    }
+    Ok(())
+}
+
+/// Each key set anew, dropped and taken again, whether it was there or not.
+fn stir<K: Key<LIMIT>, S: RecordStore<K, u32, LIMIT>, const LIMIT: u64>(
+    store: &mut S,
+    plain: &mut PlainList,
+    spread: u64,
+) -> Result<(), Fail> {
+    for place in 0..KEYS {
+        let k: K = key_at(place, spread)?;
+        put_both(store, plain, k, (place % 100) as u32 + 100, spread)?;
+        remove_both(store, plain, k, spread)?;
+        remove_both(store, plain, k, spread)?;
+        let next: K = key_at((place + 1) % KEYS, spread)?;
+        put_both(store, plain, next, (place % 100) as u32 + 200, spread)?;
+        put_both(store, plain, k, (place % 100) as u32 + 300, spread)?;
+    }
+    Ok(())
+}
+
+/// Runs the store through each fill from empty to full, its keys `spread` apart, and leaves it empty.
+pub fn every_fill<K: Key<LIMIT>, S: RecordStore<K, u32, LIMIT>, const LIMIT: u64>(
+    store: &mut S,
+    heap: Global,
+    spread: u64,
+) -> Result<(), Fail> {
+    let room = store.room();
+    let mut plain = PlainList::new(heap, room);
+    for fill in 0..=room {
+        fill_both(store, &mut plain, fill, spread)?;
+        stir(store, &mut plain, spread)?;
+    }
+    fill_both(store, &mut plain, 0, spread)
+}
+
+/// The smallest and the largest key of all, in a store with room for both.
+pub fn both_ends<K: Key<LIMIT>, S: RecordStore<K, u32, LIMIT>, const LIMIT: u64>(
+    store: &mut S,
+    heap: Global,
+) -> Result<(), Fail> {
+    let room = store.room();
+    let mut plain = PlainList::new(heap, room);
+    store.clear();
+    let first: K = key_at(0, 1)?;
+    let last: K = key_at(LIMIT.wrapping_sub(1), 1)?;
+    put_both(store, &mut plain, last, 1, 1)?;
+    check(store.next(&Some(last)).is_none())?;
+    put_both(store, &mut plain, first, 2, 1)?;
+    check_eq(number_of(store.next(&Some(first))), Some(last.to_number()))?;
+    check_eq(store.find(last), Some(1))?;
+    remove_both(store, &mut plain, last, 1)?;
+    check(K::from_number(LIMIT).is_none())
+}
