@@ -2,3 +2,4 @@ pub mod Records
 pub mod Plans
 pub mod State
 pub mod Steps
+pub mod Received

@@ -3,6 +3,7 @@ use mathlib.Core.Path.{_≡_}
 use mathlib.Core.List.{List}
 use mathlib.Core.Bool.{true, false}
 use Prim.Native.Nat.{ℕ}
+use lib.Dec.{ltb}
 use Rattle.std.specs.declared.option.Option.{Option}
 use Rattle.std.specs.declared.result.Result.{Result}
 use Rattle.std.specs.declared.result.Result.the-variants.{Ok, Err}
@@ -12,7 +13,9 @@ use Rattle.key.specs.declared.refusal.Refusal.the-variants.{OutOfRange, StoreFu
 use Rattle.dialogue.specs.Listed.{listed}
 use Rattle.restoration.specs.declared.record.Record.{Record}
 use Rattle.restoration.specs.State.{State}
-use Rattle.restoration.specs.Steps.{keep, has-room, is-imsi}
+use Rattle.restoration.specs.declared.contacts.Auth.{Auth}
+use Rattle.restoration.specs.declared.updates.Outcome.{Outcome}
+use Rattle.restoration.specs.Steps.{keep, has-room, is-imsi, auth-of, outcome-of}
 use Rattle.visitor.specs.declared.register.Vlr.{Vlr}
 
 abbrev pub state : {S : Type 0} → (S → List (ℕ × Record)) → (S → ℕ) → Vlr S → State
@@ -32,3 +35,12 @@ KeepSays s k kept (Err e) t = (e ≡ StoreFull) × (has-room s k kept ≡ false)
 abbrev pub ImsiSays : ℕ → Result Imsi Refusal → Type 0
 ImsiSays n (Ok k) = (k .number ≡ n) × (is-imsi n ≡ true)
 ImsiSays n (Err e) = (e ≡ OutOfRange) × (is-imsi n ≡ false)
+
+-- how authentication went, and how a dialogue ended, by their numbers
+abbrev pub AuthSays : ℕ → Result Auth Refusal → Type 0
+AuthSays n (Ok a) = (a ≡ auth-of n) × (ltb n 2 ≡ true)
+AuthSays n (Err e) = (e ≡ OutOfRange) × (ltb n 2 ≡ false)
+
+abbrev pub OutcomeSays : ℕ → Result Outcome Refusal → Type 0
+OutcomeSays n (Ok o) = (o ≡ outcome-of n) × (ltb n 2 ≡ true)
+OutcomeSays n (Err e) = (e ≡ OutOfRange) × (ltb n 2 ≡ false)

@@ -1,6 +1,7 @@
 //! The visitor location register, above any record store.
 mod endings;
 mod events;
+mod forms;
 mod invoke;
 mod register;
 

@@ -1,0 +1,17 @@
+pub mod Above
+pub mod Ends
+pub mod Entries
+pub mod Feet
+pub mod Finds
+pub mod Hunts
+pub mod Keeps
+pub mod Lent
+pub mod Maps
+pub mod NewKey
+pub mod OldKey
+pub mod Removal
+pub mod Sealed
+pub mod Spares
+pub mod Trees
+pub mod Turns
+pub mod Writes

@@ -1,0 +1,9 @@
+pub mod Cut
+pub mod Digits
+pub mod Feet
+pub mod Heads
+pub mod Laws
+pub mod Order
+pub mod State
+pub mod Tree
+pub mod Writes
