@@ -3,6 +3,7 @@ mod endings;
 mod events;
 mod forms;
 mod invoke;
+mod looking;
 mod register;
 
 pub use invoke::Handed;
