@@ -1,6 +1,7 @@
-//! Words for people: events and refusals.
+//! Words for people: events, answers and refusals.
 use event::Event;
 use key::Refusal;
+use key::number_at;
 use std::alloc::AllocError;
 use std::alloc::Global;
 
@@ -102,4 +103,72 @@ pub fn event_words(heap: Global, event: &Event<'_>) -> Result<String, AllocError
         Event::Cancel(imsi) => about(heap, "Cancel", *imsi),
         Event::Restart => format!(heap, "Restart"),
     }
+}
+
+/// Bytes in hexadecimal.
+pub fn hexadecimal(heap: Global, bytes: &[u8]) -> Result<String, AllocError> {
+    let mut text = String::new(heap);
+    for byte in bytes {
+        let pair = format!(heap, "{byte:02X}")?;
+        text.push_str(pair.as_str())?;
+    }
+    Ok(text)
+}
+
+/// What the asker is told, by its number.
+fn reply_words(reply: u8) -> &'static str {
+    match reply {
+        0 => "done",
+        5 => "unidentified subscriber",
+        9 => "illegal subscriber",
+        34 => "system failure",
+        35 => "data missing",
+        36 => "unexpected data value",
+        _ => "unknown reply",
+    }
+}
+
+/// What the exchange is to do, by its number.
+fn handling_words(handling: u8) -> &'static str {
+    match handling {
+        1 => ", page",
+        2 => ", search",
+        3 => ", roaming number given",
+        _ => "",
+    }
+}
+
+/// The groups that were passed over, by their weights.
+fn ignored_words(ignored: u8) -> &'static str {
+    match ignored {
+        4 => ", group C passed over",
+        32 => ", group F passed over",
+        36 => ", groups C and F passed over",
+        _ => "",
+    }
+}
+
+/// The kind of dialogue that was opened, by its number.
+fn opened_words(kind: u8) -> &'static str {
+    match kind {
+        1 => "Restore Data",
+        2 => "Update Location",
+        _ => "stand-alone update",
+    }
+}
+
+/// An answer, from its sixteen bytes.
+pub fn answer_words(heap: Global, answer: &[u8; 16]) -> Result<String, AllocError> {
+    let reply = reply_words(answer[0]);
+    let handling = handling_words(answer[1]);
+    let ignored = ignored_words(answer[3]);
+    if answer[2] == 0 {
+        return format!(heap, "{reply}{handling}{ignored}");
+    }
+    let kind = opened_words(answer[2]);
+    let dialogue = number_at(answer, 4, 4);
+    format!(
+        heap,
+        "{reply}{handling}{ignored}, {kind} opened as dialogue {dialogue}"
+    )
 }
