@@ -12,14 +12,14 @@ use Rattle.std.proofs.shelf.Ways.{tells}
 use Rattle.std.proofs.shelf.Tests.{and-parts, and-from, cases-bool, both-ways, or-cases, or-left, or-right, not-true, leb-true, le-leb, ltb-true, lt-ltb, cases-eq, not-from-false, eqb-true}
 use Rattle.std.specs.declared.option.Option.{Option}
 use Rattle.std.specs.declared.option.Option.the-variants.{Some, None}
-use Rattle.store.specs.Model.{keys, rises, at, holds, with-entry, without, any, only}
+use Rattle.store.specs.Model.{keys, rises, at, holds, with-entry, without, any, only, first-from}
 use Rattle.store.proofs.Maps.{rises-with, with-with, with-again, holds-with-other, holds-with-same, length-with-new, any-with, only-with, holds-only, at-with-same, at-with-other}
 use borrow.Author.Tests.{eq-eqb, ne-eqb}
 use Rattle.event.specs.declared.answer.Kind.{Kind}
 use Rattle.dialogue.specs.declared.row.Dialogue.{Dialogue}
 use Rattle.dialogue.specs.declared.row.Stage.the-variants.{Gone}
 use Rattle.dialogue.specs.Dialogues.{is-gone, has-number, is-on}
-use Rattle.dialogue.specs.Listed.{listed, numbered, free-row, on, row-sound, kept-open}
+use Rattle.dialogue.specs.Listed.{listed, numbered, free-row, on, row-sound, kept-open, least, nearer}
 use Rattle.dialogue.proofs.Dropped.{without-with-new, without-with-other}
 
 abbrev pub Num : List Dialogue → ℕ → Type 0
@@ -126,6 +126,18 @@ has-more imsi kind r rs new =
     elim (cases-bool (is-gone (r .stage))) [
       | inl t ↦ rw t (ap (any (on imsi kind)) (listed-gone r rs t))
       | inr f ↦ rw f (ap (any (on imsi kind)) (listed-live r rs f) ∙ any-with (on imsi kind) (listed rs) (r .number) r (new f))
+    ]
+
+first-with : (es : List (ℕ × Dialogue)) (k n : ℕ) (d : Dialogue) → first-from (with-entry es k d) n ≡ cond (ltb k n) (first-from es n) (least k (first-from es n))
+unfolding first-from with-entry
+first-with [] k n d = grind (arith, tells)
+first-with (e ∷ es) k n d = let ih = first-with es k n d in grind (arith, tells)
+
+pub first-more : (r : Dialogue) (rs : List Dialogue) (n : ℕ) → first-from (listed (r ∷ rs)) n ≡ nearer n r (first-from (listed rs) n)
+first-more r rs n =
+    elim (cases-bool (is-gone (r .stage))) [
+      | inl t ↦ rw t (ap (λ es. first-from es n) (listed-gone r rs t))
+      | inr f ↦ rw f (ap (λ es. first-from es n) (listed-live r rs f) ∙ first-with (listed rs) (r .number) n r)
     ]
 
 -- how many

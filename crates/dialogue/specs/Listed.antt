@@ -93,6 +93,15 @@ met-by es n (Some d) c = unless-refused (outcome d c) es (kept-open es n (dialog
 abbrev pub met-on : Open → ℕ → Comes → Open
 met-on es n c = met-by es n (at es n) c
 
+-- the lesser of a number and the least of others
+abbrev pub least : ℕ → Option ℕ → Option ℕ
+least k None = Some k
+least k (Some j) = cond (ltb j k) (Some j) (Some k)
+
+-- the first open number from n on, of a row and of others whose first is known
+abbrev pub nearer : ℕ → Dialogue → Option ℕ → Option ℕ
+nearer n d first = cond (is-gone (d .stage)) first (cond (ltb (d .number) n) first (least (d .number) first))
+
 -- where the dialogue of the number stands
 abbrev pub PlaceSays : Option ℕ → List Dialogue → ℕ → Type 0
 PlaceSays None ds n = at (listed ds) n ≡ None

@@ -32,4 +32,11 @@ impl<S: RecordStore<Imsi, Record, LIMIT>> Vlr<S> {
     {
         self.table.find(number)
     }
+
+    /// The first number of an open dialogue, or the first above a given one.
+    pub fn next_dialogue(&self, above: Option<u32>) -> Option<u32>
+        ensures { λ r. ⌜ r ≡ first-from (state entries room (now (self .entry)) .dialogues) (start above) ⌝ }
+    {
+        self.table.next_open(above)
+    }
 }

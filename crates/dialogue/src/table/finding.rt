@@ -1,13 +1,30 @@
 //! Finding an open dialogue, and letting it meet what comes.
 ghost use mathlib.Core.Path.{_≡_};
-ghost use Rattle.store.specs.Model.{at, any};
+ghost use Rattle.store.specs.Model.{at, any, first-from, start};
 ghost use Rattle.dialogue.specs.Dialogues.{comes};
-ghost use Rattle.dialogue.specs.Listed.{listed, on, met-at, met-on, OnImsi, PlaceSays};
+ghost use Rattle.dialogue.specs.Listed.{listed, on, met-at, met-on, nearer, OnImsi, PlaceSays};
 use crate::row::Coming;
 use crate::row::Dialogue;
 use crate::row::Met;
 use crate::table::Table;
 use event::Kind;
+
+/// The first number of a row and of those behind it, whose first is `best`: open, and above a given one.
+fn nearer(row: Dialogue, above: Option<u32>, best: Option<u32>) -> Option<u32>
+    ensures { λ r. ⌜ r ≡ nearer (start above) row best ⌝ }
+{
+    let passed = match above {
+        Some(given) => row.number <= given,
+        None => false,
+    };
+    if row.stage.is_gone() || passed {
+        return best;
+    }
+    match best {
+        Some(least) if least < row.number => best,
+        _ => Some(row.number),
+    }
+}
 
 impl Table {
     /// Where the open dialogue of the number stands.
@@ -45,6 +62,19 @@ impl Table {
             }
         }
         false
+    }
+
+    /// The first open number, or the first above a given one.
+    pub fn next_open(&self, above: Option<u32>) -> Option<u32>
+        ensures { λ r. ⌜ r ≡ first-from (listed (now (self .entry) .rows)) (start above) ⌝ }
+    {
+        let mut best = None;
+        let mut i: usize = 64;
+        while i > 0 {
+            i -= 1;
+            best = nearer(self.rows[i], above, best);
+        }
+        best
     }
 
     /// Lends the dialogue of the number to what comes for it.
