@@ -3,3 +3,5 @@ pub mod Plans
 pub mod State
 pub mod Steps
 pub mod Received
+pub mod Sound
+pub mod Complete

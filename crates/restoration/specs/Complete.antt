@@ -1,0 +1,74 @@
+-- When a record has groups A and B: from its first good end on. Assumes nothing.
+use mathlib.Core.Path.{_≡_}
+use mathlib.Core.List.{List}
+use mathlib.Core.Bool.{Bool, true, false, _&&_, _||_}
+use Prim.Native.Nat.{ℕ}
+use lib.Dec.{eqb}
+use Rattle.std.specs.declared.option.Option.{Option}
+use Rattle.std.specs.declared.option.Option.the-variants.{Some, None}
+use Rattle.std.specs.declared.result.Result.{Result}
+use Rattle.std.specs.declared.result.Result.the-variants.{Ok, Err}
+use Rattle.key.specs.declared.refusal.Refusal.{Refusal}
+use Rattle.store.specs.Model.{at, holds}
+use Rattle.event.specs.declared.answer.Answer.{Answer}
+use Rattle.event.specs.declared.answer.Reply.{Reply}
+use Rattle.event.specs.declared.answer.Reply.the-variants.{Done, UnidentifiedSubscriber, IllegalSubscriber, SystemFailure, DataMissing, UnexpectedDataValue}
+use Rattle.event.specs.Layout.{Event, provide-roaming-number, call-information, short-message-v2, short-message-v1, location-request, access, outgoing, registration, open-update, insert, end, reset, cancel, restart}
+use Rattle.event.specs.Decoding.{Reading, read, refused, decoded}
+use Rattle.dialogue.specs.declared.row.Dialogue.{Dialogue}
+use Rattle.dialogue.specs.Dialogues.{Comes}
+use Rattle.dialogue.specs.Data.{is-complete}
+use Rattle.restoration.specs.declared.record.Record.{Record}
+use Rattle.restoration.specs.State.{State}
+use Rattle.restoration.specs.Steps.{answered, after, found, spending-after}
+use Rattle.restoration.specs.Received.{reading-after}
+use Rattle.restoration.specs.Sound.{Sound}
+
+-- there is a record, and it has groups A and B
+abbrev pub has-both : Option Record → Bool
+has-both None = false
+has-both (Some v) = is-complete (v .subscriber)
+
+abbrev pub is-done : Reply → Bool
+is-done Done = true
+is-done UnidentifiedSubscriber = false
+is-done IllegalSubscriber = false
+is-done SystemFailure = false
+is-done DataMissing = false
+is-done UnexpectedDataValue = false
+
+-- the answer is a reply of 0
+abbrev pub says-done : Result Answer Refusal → Bool
+says-done (Ok a) = is-done (a .reply)
+says-done (Err x) = false
+
+-- a dialogue is open, and is the subscriber's
+abbrev pub is-for : ℕ → Option Dialogue → Bool
+is-for k None = false
+is-for k (Some d) = eqb (d .imsi) k
+
+-- the event is an End with reply 0 of a dialogue that is open for the subscriber
+abbrev pub good-end : State → Event → ℕ → Bool
+good-end s (provide-roaming-number q) k = false
+good-end s (call-information q) k = false
+good-end s (short-message-v2 q) k = false
+good-end s (short-message-v1 q) k = false
+good-end s (location-request q) k = false
+good-end s (access q auth msc area) k = false
+good-end s (outgoing q auth msc) k = false
+good-end s (registration q auth msc area) k = false
+good-end s (open-update q) k = false
+good-end s (insert n count groups) k = false
+good-end s (end n outcome) k = is-for k (at (s .dialogues) n) && says-done (answered s (end n outcome))
+good-end s (reset digits value) k = false
+good-end s (cancel q) k = false
+good-end s restart k = false
+
+pub record Data-law : Type 0 where
+  -- a record has A and B after an event exactly when this was a good end for it, or it had them before
+  pub by-event : (s : State) → Sound s → (e : Event) (k : ℕ) → holds (after s e .records) k ≡ true → has-both (found (after s e) k) ≡ (good-end s e k || has-both (found s k))
+  -- a record that the event made has neither all of them nor a good end
+  pub when-made : (s : State) → Sound s → (e : Event) (k : ℕ) → holds (s .records) k ≡ false → (good-end s e k ≡ false) × (has-both (found (after s e) k) ≡ false)
+  -- spending an invoke changes no record, and in bytes an event does to them what it does directly
+  pub by-spending : (s : State) (n : ℕ) (c : Comes) → spending-after s n c .records ≡ s .records
+  pub by-bytes : (s : State) (e : Event) (n : ℕ) → reading-after s (read e n) .records ≡ after s e .records
