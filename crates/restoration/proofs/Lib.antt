@@ -1,2 +1,4 @@
 pub mod Parts
 pub mod Fewer
+pub mod Fair
+pub mod Opening
