@@ -12,7 +12,7 @@ use Rattle.std.specs.declared.option.Option.{Option}
 use Rattle.std.specs.declared.option.Option.the-variants.{Some, None}
 use Rattle.store.specs.Model.{keys, rises, at, holds, with-entry, without, only}
 use Rattle.store.proofs.Maps.{rises-with, rises-without, at-with-same, at-with-other, at-without-same, at-without-other, holds-from-some}
-use Rattle.store.proofs.Changes.{length-with-known, length-without-known, length-without}
+use Rattle.store.proofs.Changes.{length-with-known}
 use Rattle.dialogue.specs.declared.row.Dialogue.{Dialogue}
 use Rattle.dialogue.specs.declared.row.Met.{Met}
 use Rattle.dialogue.specs.declared.row.Met.the-variants.{Refused, Sent, Withdrawn, Taken, Rejected, Ended}
@@ -20,7 +20,7 @@ use Rattle.dialogue.specs.Dialogues.{Comes, is-gone, outcome, dialogue-after}
 use Rattle.dialogue.specs.Listed.{Open, unless-refused, kept-open, met-by, met-on}
 use Rattle.restoration.specs.State.{State}
 use Rattle.restoration.specs.Sound.{Sound}
-use Rattle.restoration.proofs.Parts.{some-none, some-one, rises-only, length-only, at-only, none-rises}
+use Rattle.restoration.proofs.Parts.{some-none, some-one, without-shorter, rises-only, length-only, at-only, none-rises}
 
 -- d is still the dialogue c
 pub record Still (c d : Dialogue) : Type 0 where
@@ -63,16 +63,8 @@ module _ {s : State} (sound : Sound s) where
   none-stays = record { rise = none-rises Dialogue; short = omega arith; was = λ n d h. absurd (some-none None d h refl) }
 
   pub one-less : (n : ℕ) → Fewer (s .dialogues) (without (s .dialogues) n)
-  one-less n = record { rise = rises-without (s .dialogues) n (sound .dialogues-rise); short = shorter; was = before }
+  one-less n = record { rise = rises-without (s .dialogues) n (sound .dialogues-rise); short = without-shorter (s .dialogues) n; was = before }
     where
-      shorter : length (without (s .dialogues) n) ≤ length (s .dialogues)
-      shorter =
-          let l = length-without (s .dialogues) n in
-          elim (cases-bool (holds (s .dialogues) n)) [
-            | inl t ↦ omega (arith, length-without-known (s .dialogues) n t)
-            | inr f ↦ omega (arith, rw f at l)
-          ]
-
       before : (m : ℕ) (d : Dialogue) → at (without (s .dialogues) n) m ≡ Some d → (c : Dialogue) × (at (s .dialogues) m ≡ Some c) × Still c d
       before m d h =
           elim (cases-eq m n) [

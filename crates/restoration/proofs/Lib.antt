@@ -2,3 +2,5 @@ pub mod Parts
 pub mod Fewer
 pub mod Fair
 pub mod Opening
+pub mod Leaving
+pub mod Staying

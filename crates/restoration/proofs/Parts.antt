@@ -11,14 +11,23 @@ use borrow.Author.Tests.{eq-eqb, ne-eqb, ltb-true}
 use Rattle.std.proofs.shelf.Tests.{cases-bool, cases-eq, and-parts, and-from, or-parts, cond-both, eqb-true}
 use Rattle.std.specs.declared.option.Option.{Option}
 use Rattle.std.specs.declared.option.Option.the-variants.{Some, None}
-use Rattle.store.specs.Model.{keys, climbs, rises, at, holds, any, only, each}
+use Rattle.store.specs.Model.{keys, climbs, rises, at, holds, without, any, only, each}
 use Rattle.store.proofs.Maps.{rises-tail, climbs-weaker, at-miss, above-climbs}
+use Rattle.store.proofs.Changes.{length-without, length-without-known}
 
 pub some-none : {A : Type 0} (o : Option A) (x : A) → o ≡ Some x → o ≡ None → ⊥
 some-none o x p q = let z : _≡_ {A = ℕ} 0 1 = cc in omega arith
 
 pub some-one : {A : Type 0} (o : Option A) (x y : A) → o ≡ Some x → o ≡ Some y → x ≡ y
 some-one o x y p q = cc
+
+-- one entry less
+pub without-shorter : {V : Type 0} (es : List (ℕ × V)) (k : ℕ) → length (without es k) ≤ length es
+without-shorter es k =
+    elim (cases-bool (holds es k)) [
+      | inl t ↦ omega (arith, length-without-known es k t)
+      | inr f ↦ let l = length-without es k in omega (arith, rw f at l)
+    ]
 
 -- each entry changed
 pub keys-each : {V : Type 0} (f : ℕ → V → V) (es : List (ℕ × V)) → keys (each f es) ≡ keys es
