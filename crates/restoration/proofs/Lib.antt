@@ -4,3 +4,5 @@ pub mod Fair
 pub mod Opening
 pub mod Leaving
 pub mod Staying
+pub mod Unsupplied
+pub mod GoodEnds
