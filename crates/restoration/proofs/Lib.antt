@@ -6,3 +6,4 @@ pub mod Leaving
 pub mod Staying
 pub mod Unsupplied
 pub mod GoodEnds
+pub mod Completing

@@ -3,6 +3,7 @@ mod calls;
 mod contacts;
 mod plan;
 mod record;
+mod soundness;
 mod updates;
 
 pub use calls::plan_reach;
@@ -15,6 +16,8 @@ pub use plan::Plan;
 pub use record::Indicator;
 pub use record::Place;
 pub use record::Record;
+pub use soundness::data_law;
+pub use soundness::stays_sound;
 pub use updates::Outcome;
 pub use updates::plan_end;
 pub use updates::plan_update;
