@@ -1,6 +1,5 @@
 -- When a record has groups A and B: from its first good end on. Assumes nothing.
 use mathlib.Core.Path.{_≡_}
-use mathlib.Core.List.{List}
 use mathlib.Core.Bool.{Bool, true, false, _&&_, _||_}
 use Prim.Native.Nat.{ℕ}
 use lib.Dec.{eqb}
@@ -14,20 +13,20 @@ use Rattle.event.specs.declared.answer.Answer.{Answer}
 use Rattle.event.specs.declared.answer.Reply.{Reply}
 use Rattle.event.specs.declared.answer.Reply.the-variants.{Done, UnidentifiedSubscriber, IllegalSubscriber, SystemFailure, DataMissing, UnexpectedDataValue}
 use Rattle.event.specs.Layout.{Event, provide-roaming-number, call-information, short-message-v2, short-message-v1, location-request, access, outgoing, registration, open-update, insert, end, reset, cancel, restart}
-use Rattle.event.specs.Decoding.{Reading, read, refused, decoded}
+use Rattle.event.specs.Decoding.{read}
 use Rattle.dialogue.specs.declared.row.Dialogue.{Dialogue}
 use Rattle.dialogue.specs.Dialogues.{Comes}
-use Rattle.dialogue.specs.Data.{is-complete}
+use Rattle.dialogue.specs.Data.{no-data, is-complete}
 use Rattle.restoration.specs.declared.record.Record.{Record}
+use Rattle.restoration.specs.Plans.{record-data}
 use Rattle.restoration.specs.State.{State}
 use Rattle.restoration.specs.Steps.{answered, after, found, spending-after}
 use Rattle.restoration.specs.Received.{reading-after}
 use Rattle.restoration.specs.Sound.{Sound}
 
--- there is a record, and it has groups A and B
+-- a record has groups A and B; where there is none, there are none
 abbrev pub has-both : Option Record → Bool
-has-both None = false
-has-both (Some v) = is-complete (v .subscriber)
+has-both old = is-complete (record-data old)
 
 abbrev pub is-done : Reply → Bool
 is-done Done = true
@@ -67,8 +66,10 @@ good-end s restart k = false
 pub record Data-law : Type 0 where
   -- a record has A and B after an event exactly when this was a good end for it, or it had them before
   pub by-event : (s : State) → Sound s → (e : Event) (k : ℕ) → holds (after s e .records) k ≡ true → has-both (found (after s e) k) ≡ (good-end s e k || has-both (found s k))
-  -- a record that the event made has neither all of them nor a good end
-  pub when-made : (s : State) → Sound s → (e : Event) (k : ℕ) → holds (s .records) k ≡ false → (good-end s e k ≡ false) × (has-both (found (after s e) k) ≡ false)
+  -- what is no good end leaves all its groups as they were
+  pub otherwise : (s : State) → Sound s → (e : Event) (k : ℕ) → holds (after s e .records) k ≡ true → good-end s e k ≡ false → record-data (found (after s e) k) ≡ record-data (found s k)
+  -- where there was no record it was no good end, and a record that the event made has no group
+  pub when-made : (s : State) → Sound s → (e : Event) (k : ℕ) → holds (s .records) k ≡ false → (good-end s e k ≡ false) × (record-data (found (after s e) k) ≡ no-data)
   -- spending an invoke changes no record, and in bytes an event does to them what it does directly
   pub by-spending : (s : State) (n : ℕ) (c : Comes) → spending-after s n c .records ≡ s .records
   pub by-bytes : (s : State) (e : Event) (n : ℕ) → reading-after s (read e n) .records ≡ after s e .records
