@@ -1,5 +1,7 @@
 //! Saving and reloading at each fill, beside two plain lists.
+use crate::drill::Arrival;
 use crate::drill::compare;
+use crate::drill::every_fill;
 use crate::drill::fill_both;
 use crate::drill::number_answered;
 use crate::plain::PlainList;
@@ -34,7 +36,7 @@ fn save_both<
 }
 
 /// At each fill: saves, empties and fills half, and reloads; every step is compared on both sides.
-pub fn save_and_reload<
+fn save_and_reload<
     K: Key<LIMIT>,
     L: RecordStore<K, u32, LIMIT>,
     B: RecordStore<K, u32, LIMIT>,
@@ -44,10 +46,10 @@ pub fn save_and_reload<
     let mut plain = PlainList::new(heap, room);
     let mut saved = PlainList::new(heap, backed.back().room());
     for fill in 0..=room {
-        fill_both(backed, &mut plain, fill, spread)?;
+        fill_both(backed, &mut plain, fill, Arrival::Scattered, spread)?;
         compare(backed.back(), &saved, spread)?;
         save_both(backed, &plain, &mut saved, spread)?;
-        fill_both(backed, &mut plain, fill / 2, spread)?;
+        fill_both(backed, &mut plain, fill / 2, Arrival::Falling, spread)?;
         compare(backed.back(), &saved, spread)?;
         backed.reload::<K, u32, LIMIT>();
         plain.copy_from(&saved)?;
@@ -55,4 +57,16 @@ pub fn save_and_reload<
         compare(backed.back(), &saved, spread)?;
     }
     Ok(())
+}
+
+/// Runs a live store with a back-up through each fill, as any store and then with saving and reloading.
+pub fn every_fill_backed<
+    K: Key<LIMIT>,
+    L: RecordStore<K, u32, LIMIT> + Drop,
+    B: RecordStore<K, u32, LIMIT> + Drop,
+    const LIMIT: u64,
+>(live: L, back: B, heap: Global, spread: u64) -> Result<(), Fail> {
+    let mut backed = Backed::over::<K, u32, LIMIT>(live, back);
+    every_fill::<K, Backed<L, B>, LIMIT>(&mut backed, heap, spread)?;
+    save_and_reload::<K, L, B, LIMIT>(&mut backed, heap, spread)
 }

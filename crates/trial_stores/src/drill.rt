@@ -4,10 +4,31 @@ use key::Key;
 use key::Refusal;
 use std::alloc::Global;
 use std::test::*;
+use store::MOST_ROOM;
 use store::RecordStore;
 
-/// How many keys the drill uses. A prime, so that steps of five come by each of them.
+/// How many keys the drill uses. A prime, so that equal steps come by each of them.
 pub const KEYS: u64 = 13;
+
+/// The order in which keys arrive.
+#[derive(Clone, Copy)]
+pub enum Arrival {
+    Rising,
+    Falling,
+    Scattered,
+}
+
+impl Arrival {
+    /// The place of the key that arrives in a turn. Each is as many places on from the one before.
+    fn place(self, turn: usize) -> u64 {
+        let step = match self {
+            Arrival::Rising => 1,
+            Arrival::Falling => KEYS - 1,
+            Arrival::Scattered => 5,
+        };
+        (turn as u64).wrapping_add(1).wrapping_mul(step) % KEYS
+    }
+}
 
 /// The key at a place of the drill. The keys are `spread` apart, from 0 on.
 fn key_at<K: Key<LIMIT>, const LIMIT: u64>(place: u64, spread: u64) -> Result<K, Fail> {
@@ -81,18 +102,19 @@ pub fn remove_both<K: Key<LIMIT>, S: RecordStore<K, u32, LIMIT>, const LIMIT: u6
     compare(store, plain, spread)
 }
 
-/// Empties both, and takes as many keys as the fill says, in steps of five.
+/// Empties both, and takes as many keys as the fill says.
 pub fn fill_both<K: Key<LIMIT>, S: RecordStore<K, u32, LIMIT>, const LIMIT: u64>(
     store: &mut S,
     plain: &mut PlainList,
     fill: usize,
+    arrival: Arrival,
     spread: u64,
 ) -> Result<(), Fail> {
     store.clear();
     plain.clear();
     compare(store, plain, spread)?;
     for turn in 0..fill {
-        let k: K = key_at((turn as u64).wrapping_mul(5) % KEYS, spread)?;
+        let k: K = key_at(arrival.place(turn), spread)?;
         put_both(store, plain, k, (turn % 100) as u32, spread)?;
     }
     Ok(())
@@ -116,7 +138,21 @@ fn stir<K: Key<LIMIT>, S: RecordStore<K, u32, LIMIT>, const LIMIT: u64>(
     Ok(())
 }
 
-/// Runs the store through each fill from empty to full, its keys `spread` apart, and leaves it empty.
+/// Stirs the store at each fill from empty to full.
+fn fills_of<K: Key<LIMIT>, S: RecordStore<K, u32, LIMIT>, const LIMIT: u64>(
+    store: &mut S,
+    plain: &mut PlainList,
+    arrival: Arrival,
+    spread: u64,
+) -> Result<(), Fail> {
+    for fill in 0..=plain.room() {
+        fill_both(store, plain, fill, arrival, spread)?;
+        stir(store, plain, spread)?;
+    }
+    Ok(())
+}
+
+/// Runs the store through each fill with keys `spread` apart, which arrive in rising, in falling and in scattered order.
 pub fn every_fill<K: Key<LIMIT>, S: RecordStore<K, u32, LIMIT>, const LIMIT: u64>(
     store: &mut S,
     heap: Global,
@@ -124,11 +160,10 @@ pub fn every_fill<K: Key<LIMIT>, S: RecordStore<K, u32, LIMIT>, const LIMIT: u64
 ) -> Result<(), Fail> {
     let room = store.room();
     let mut plain = PlainList::new(heap, room);
-    for fill in 0..=room {
-        fill_both(store, &mut plain, fill, spread)?;
-        stir(store, &mut plain, spread)?;
+    for arrival in [Arrival::Rising, Arrival::Falling, Arrival::Scattered] {
+        fills_of(store, &mut plain, arrival, spread)?;
     }
-    fill_both(store, &mut plain, 0, spread)
+    Ok(())
 }
 
 /// The smallest and the largest key of all, in a store with room for both.
@@ -148,4 +183,26 @@ pub fn both_ends<K: Key<LIMIT>, S: RecordStore<K, u32, LIMIT>, const LIMIT: u64>
     check_eq(store.find(last), Some(1))?;
     remove_both(store, &mut plain, last, 1)?;
     check(K::from_number(LIMIT).is_none())
+}
+
+/// A store with the largest room, filled in rising order: the last place is taken, given back and taken again.
+pub fn largest_room<K: Key<LIMIT>, S: RecordStore<K, u32, LIMIT>, const LIMIT: u64>(
+    store: &mut S,
+) -> Result<(), Fail> {
+    store.clear();
+    check_eq(store.room(), MOST_ROOM)?;
+    for number in 0..65_536u32 {
+        let k: K = key_at(number as u64, 1)?;
+        check_eq(number_answered(store.put(k, number)), 0)?;
+    }
+    let first: K = key_at(0, 1)?;
+    let last: K = key_at(65_535, 1)?;
+    let more: K = key_at(65_536, 1)?;
+    check_eq(number_answered(store.put(more, 1)), 5)?;
+    check_eq(store.count(), MOST_ROOM)?;
+    check(store.remove(first))?;
+    check_eq(number_answered(store.put(more, 1)), 0)?;
+    check_eq(store.find(last), Some(65_535))?;
+    check_eq(store.find(more), Some(1))?;
+    check_eq(number_answered(store.put(first, 1)), 5)
 }

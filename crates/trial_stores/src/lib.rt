@@ -3,9 +3,10 @@ mod backing;
 mod drill;
 mod plain;
 
-pub use backing::save_and_reload;
+pub use backing::every_fill_backed;
 pub use drill::both_ends;
 pub use drill::every_fill;
+pub use drill::largest_room;
 pub use plain::PlainList;
 
 #[cfg(test)]

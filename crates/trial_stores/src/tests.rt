@@ -1,7 +1,8 @@
 //! Both stores, and stores with a back-up made of either, against the plain list.
-use crate::backing::save_and_reload;
+use crate::backing::every_fill_backed;
 use crate::drill::both_ends;
 use crate::drill::every_fill;
+use crate::drill::largest_room;
 use crate::drill::number_answered;
 use key::IMSI_LIMIT;
 use key::Imsi;
@@ -22,6 +23,10 @@ use store::Row;
 use store::RowClone;
 use store::Rows;
 use store::RowsStore;
+use tree::Node;
+use tree::NodeClone;
+use tree::SearchTree;
+use tree::TreeStore;
 
 /// Twelve steps of this come near the last IMSI, and twelve of the other near the last TMSI.
 const IMSI_SPREAD: u64 = 83_333_333_333_333;
@@ -36,6 +41,14 @@ fn imsi_rows(heap: Global, n: usize) -> Result<ImsiRows, AllocError> {
 
 fn tmsi_rows(heap: Global, n: usize) -> Result<Rows<Tmsi, u32, TMSI_LIMIT>, AllocError> {
     Ok(Rows::over(vec![in heap; Row::spare(9u32); n]?))
+}
+
+fn imsi_tree(heap: Global, n: usize) -> Result<SearchTree<Imsi, u32, IMSI_LIMIT>, AllocError> {
+    Ok(SearchTree::over(vec![in heap; Node::spare(9u32); n]?))
+}
+
+fn tmsi_tree(heap: Global, n: usize) -> Result<SearchTree<Tmsi, u32, TMSI_LIMIT>, AllocError> {
+    Ok(SearchTree::over(vec![in heap; Node::spare(9u32); n]?))
 }
 
 fn backed_rows(
@@ -60,37 +73,41 @@ fn rows_at_every_fill(rt: LibcRuntime) -> Result<(), Fail> {
 }
 
 #[test]
-fn rows_with_a_back_up_at_every_fill(rt: LibcRuntime) -> Result<(), Fail> {
+fn tree_at_every_fill(rt: LibcRuntime) -> Result<(), Fail> {
+    for room in 0..7 {
+        every_fill(&mut imsi_tree(rt.alloc(), room)?, rt.alloc(), IMSI_SPREAD)?;
+        every_fill(&mut tmsi_tree(rt.alloc(), room)?, rt.alloc(), TMSI_SPREAD)?;
+        every_fill(&mut tmsi_tree(rt.alloc(), room)?, rt.alloc(), 1)?;
+    }
+    both_ends(&mut imsi_tree(rt.alloc(), 2)?, rt.alloc())?;
+    both_ends(&mut tmsi_tree(rt.alloc(), 2)?, rt.alloc())
+}
+
+#[test]
+fn stores_with_a_back_up_at_every_fill(rt: LibcRuntime) -> Result<(), Fail> {
+    let heap = rt.alloc();
     for live in 0..5 {
         for back in 0..5 {
-            let mut backed = backed_rows(rt.alloc(), live, back)?;
-            every_fill(&mut backed, rt.alloc(), IMSI_SPREAD)?;
-            save_and_reload(&mut backed, rt.alloc(), IMSI_SPREAD)?;
+            let rows = imsi_rows(heap, live)?;
+            every_fill_backed(rows, imsi_rows(heap, back)?, heap, IMSI_SPREAD)?;
+            let rows = imsi_rows(heap, live)?;
+            every_fill_backed(rows, imsi_tree(heap, back)?, heap, IMSI_SPREAD)?;
+            let tree = imsi_tree(heap, live)?;
+            every_fill_backed(tree, imsi_rows(heap, back)?, heap, IMSI_SPREAD)?;
         }
     }
     Ok(())
 }
 
+/// Either part of a store with a back-up may itself be one.
 #[test]
-fn back_up_of_a_store_with_a_back_up(rt: LibcRuntime) -> Result<(), Fail> {
+fn stores_with_a_back_up_inside_another(rt: LibcRuntime) -> Result<(), Fail> {
+    let heap = rt.alloc();
     for room in 0..4 {
-        let inner = backed_rows(rt.alloc(), 3, 2)?;
-        let rows = imsi_rows(rt.alloc(), room)?;
-        let mut outer = Backed::over::<Imsi, u32, IMSI_LIMIT>(inner, rows);
-        every_fill(&mut outer, rt.alloc(), IMSI_SPREAD)?;
-        save_and_reload(&mut outer, rt.alloc(), IMSI_SPREAD)?;
-    }
-    Ok(())
-}
-
-#[test]
-fn store_with_a_back_up_as_a_back_up(rt: LibcRuntime) -> Result<(), Fail> {
-    for room in 0..4 {
-        let rows = imsi_rows(rt.alloc(), room)?;
-        let inner = backed_rows(rt.alloc(), 3, 2)?;
-        let mut outer = Backed::over::<Imsi, u32, IMSI_LIMIT>(rows, inner);
-        every_fill(&mut outer, rt.alloc(), IMSI_SPREAD)?;
-        save_and_reload(&mut outer, rt.alloc(), IMSI_SPREAD)?;
+        let live = backed_rows(heap, 3, 2)?;
+        every_fill_backed(live, imsi_tree(heap, room)?, heap, IMSI_SPREAD)?;
+        let back = backed_rows(heap, 3, 2)?;
+        every_fill_backed(imsi_tree(heap, room)?, back, heap, IMSI_SPREAD)?;
     }
     Ok(())
 }
@@ -111,21 +128,8 @@ fn making_a_store_with_a_back_up_clears_both(rt: LibcRuntime) -> Result<(), Fail
     check_eq(backed.back().room(), 3)
 }
 
-/// Memory of more rows than a store may have room for: the last row that counts is taken, given back and taken again.
 #[test]
 fn more_memory_than_room(rt: LibcRuntime) -> Result<(), Fail> {
-    let mut rows = tmsi_rows(rt.alloc(), MOST_ROOM + 3)?;
-    check_eq(rows.room(), MOST_ROOM)?;
-    for number in 0..65_536u32 {
-        check_eq(number_answered(rows.put(Tmsi { number }, number)), 0)?;
-    }
-    let last = Tmsi { number: 65_535 };
-    let more = Tmsi { number: 65_536 };
-    check_eq(number_answered(rows.put(more, 1)), 5)?;
-    check_eq(rows.count(), MOST_ROOM)?;
-    check(rows.remove(Tmsi { number: 0 }))?;
-    check_eq(number_answered(rows.put(more, 1)), 0)?;
-    check_eq(rows.find(last), Some(65_535))?;
-    check_eq(rows.find(more), Some(1))?;
-    check_eq(number_answered(rows.put(Tmsi { number: 0 }, 1)), 5)
+    largest_room(&mut tmsi_rows(rt.alloc(), MOST_ROOM + 3)?)?;
+    largest_room(&mut tmsi_tree(rt.alloc(), MOST_ROOM + 3)?)
 }
