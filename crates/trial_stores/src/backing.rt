@@ -4,6 +4,7 @@ use crate::drill::compare;
 use crate::drill::every_fill;
 use crate::drill::fill_both;
 use crate::drill::number_answered;
+use crate::drill::widest;
 use crate::plain::PlainList;
 use key::Key;
 use std::alloc::Global;
@@ -59,14 +60,35 @@ fn save_and_reload<
     Ok(())
 }
 
+/// Makes a store with a back-up of two stores that hold something, and compares both with empty lists.
+fn made_empty<
+    K: Key<LIMIT>,
+    L: RecordStore<K, u32, LIMIT> + Drop,
+    B: RecordStore<K, u32, LIMIT> + Drop,
+    const LIMIT: u64,
+>(live: L, back: B, heap: Global) -> Result<Backed<L, B>, Fail> {
+    let mut live = live;
+    let mut back = back;
+    let mut plain = PlainList::new(heap, live.room());
+    let mut saved = PlainList::new(heap, back.room());
+    fill_both::<K, L, LIMIT>(&mut live, &mut plain, 2, Arrival::Rising, 1)?;
+    fill_both::<K, B, LIMIT>(&mut back, &mut saved, 3, Arrival::Rising, 1)?;
+    plain.clear();
+    saved.clear();
+    let backed = Backed::over::<K, u32, LIMIT>(live, back);
+    compare::<K, Backed<L, B>, LIMIT>(&backed, &plain, 1)?;
+    compare::<K, B, LIMIT>(backed.back(), &saved, 1)?;
+    Ok(backed)
+}
+
 /// Runs a live store with a back-up through each fill, as any store and then with saving and reloading.
 pub fn every_fill_backed<
     K: Key<LIMIT>,
     L: RecordStore<K, u32, LIMIT> + Drop,
     B: RecordStore<K, u32, LIMIT> + Drop,
     const LIMIT: u64,
->(live: L, back: B, heap: Global, spread: u64) -> Result<(), Fail> {
-    let mut backed = Backed::over::<K, u32, LIMIT>(live, back);
-    every_fill::<K, Backed<L, B>, LIMIT>(&mut backed, heap, spread)?;
-    save_and_reload::<K, L, B, LIMIT>(&mut backed, heap, spread)
+>(live: L, back: B, heap: Global) -> Result<(), Fail> {
+    let mut backed = made_empty::<K, L, B, LIMIT>(live, back, heap)?;
+    every_fill::<K, Backed<L, B>, LIMIT>(&mut backed, heap)?;
+    save_and_reload::<K, L, B, LIMIT>(&mut backed, heap, widest(LIMIT))
 }

@@ -38,6 +38,11 @@ fn key_at<K: Key<LIMIT>, const LIMIT: u64>(place: u64, spread: u64) -> Result<K,
     }
 }
 
+/// How far apart the drill's keys are when they reach from 0 to the last key of all, or close to it.
+pub fn widest(limit: u64) -> u64 {
+    limit.wrapping_sub(1) / (KEYS - 1)
+}
+
 /// The number of a key that may be there.
 fn number_of<K: Key<LIMIT>, const LIMIT: u64>(k: Option<K>) -> Option<u64> {
     match k {
@@ -152,44 +157,42 @@ fn fills_of<K: Key<LIMIT>, S: RecordStore<K, u32, LIMIT>, const LIMIT: u64>(
     Ok(())
 }
 
-/// Runs the store through each fill with keys `spread` apart, which arrive in rising, in falling and in scattered order.
+/// The smallest and the largest key of all.
+fn both_ends<K: Key<LIMIT>, S: RecordStore<K, u32, LIMIT>, const LIMIT: u64>(
+    store: &mut S,
+    plain: &mut PlainList,
+) -> Result<(), Fail> {
+    store.clear();
+    plain.clear();
+    let first: K = key_at(0, 1)?;
+    let last: K = key_at(LIMIT.wrapping_sub(1), 1)?;
+    put_both(store, plain, last, 1, 1)?;
+    put_both(store, plain, first, 2, 1)?;
+    check_eq(store.find(last), plain.find(last.to_number())).note("find the last")?;
+    check_eq(number_of(store.next(&Some(first))), plain.least_from(1)).note("next but far")?;
+    check(store.next(&Some(last)).is_none()).note("next above the last")?;
+    remove_both(store, plain, last, 1)?;
+    check(K::from_number(LIMIT).is_none()).note("limit")
+}
+
+/// Runs the store through each fill, with keys side by side and as far apart as they go, arriving in each order.
 pub fn every_fill<K: Key<LIMIT>, S: RecordStore<K, u32, LIMIT>, const LIMIT: u64>(
     store: &mut S,
     heap: Global,
-    spread: u64,
 ) -> Result<(), Fail> {
     let room = store.room();
     let mut plain = PlainList::new(heap, room);
     for arrival in [Arrival::Rising, Arrival::Falling, Arrival::Scattered] {
-        fills_of(store, &mut plain, arrival, spread)?;
+        fills_of(store, &mut plain, arrival, 1)?;
+        fills_of(store, &mut plain, arrival, widest(LIMIT))?;
     }
-    Ok(())
+    both_ends(store, &mut plain)
 }
 
-/// The smallest and the largest key of all, in a store with room for both.
-pub fn both_ends<K: Key<LIMIT>, S: RecordStore<K, u32, LIMIT>, const LIMIT: u64>(
-    store: &mut S,
-    heap: Global,
-) -> Result<(), Fail> {
-    let room = store.room();
-    let mut plain = PlainList::new(heap, room);
-    store.clear();
-    let first: K = key_at(0, 1)?;
-    let last: K = key_at(LIMIT.wrapping_sub(1), 1)?;
-    put_both(store, &mut plain, last, 1, 1)?;
-    check(store.next(&Some(last)).is_none())?;
-    put_both(store, &mut plain, first, 2, 1)?;
-    check_eq(number_of(store.next(&Some(first))), Some(last.to_number()))?;
-    check_eq(store.find(last), Some(1))?;
-    remove_both(store, &mut plain, last, 1)?;
-    check(K::from_number(LIMIT).is_none())
-}
-
-/// A store with the largest room, filled in rising order: the last place is taken, given back and taken again.
+/// A store of the largest room, filled in rising order: the last place is taken, given back and taken again.
 pub fn largest_room<K: Key<LIMIT>, S: RecordStore<K, u32, LIMIT>, const LIMIT: u64>(
     store: &mut S,
 ) -> Result<(), Fail> {
-    store.clear();
     check_eq(store.room(), MOST_ROOM)?;
     for number in 0..65_536u32 {
         let k: K = key_at(number as u64, 1)?;

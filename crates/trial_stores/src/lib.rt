@@ -1,13 +1,10 @@
-//! Any record store beside a plain list: the same calls go to both, and every answer is compared.
+//! Any record store beside a plain list: the same calls go to both, and every answer is compared. All of it is for the
+//! tests, and none of it for other crates.
+#[cfg(test)]
 mod backing;
+#[cfg(test)]
 mod drill;
+#[cfg(test)]
 mod plain;
-
-pub use backing::every_fill_backed;
-pub use drill::both_ends;
-pub use drill::every_fill;
-pub use drill::largest_room;
-pub use plain::PlainList;
-
 #[cfg(test)]
 mod tests;
