@@ -99,4 +99,11 @@ impl Register {
             Register::OverTree(vlr) => vlr.dialogue(number),
         }
     }
+
+    pub fn next_dialogue(&self, above: Option<u32>) -> Option<u32> {
+        match self {
+            Register::OverRows(vlr) => vlr.next_dialogue(above),
+            Register::OverTree(vlr) => vlr.next_dialogue(above),
+        }
+    }
 }

@@ -142,12 +142,12 @@ fn play_spending(
 fn withdraw_kept(
     rt: &LibcRuntime,
     register: &mut Register,
-    kept: &mut Vec<Invoke>,
+    invokes: &mut Vec<Invoke>,
 ) -> Result<(), AnyError>
-    ensures { λ _. ⌜ vec-len (now (kept .exit)) ≡ 0 ⌝ }
+    ensures { λ _. ⌜ vec-len (now (invokes .exit)) ≡ 0 ⌝ }
 {
     let mut printed = Ok(());
-    while let Some(invoke) = kept.pop() {
+    while let Some(invoke) = invokes.pop() {
         let dialogue = invoke.dialogue();
         let spent = register.withdraw(invoke);
         if printed.is_ok() {
