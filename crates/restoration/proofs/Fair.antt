@@ -1,11 +1,10 @@
 -- What a plan opens: a dialogue of a kind that is not open yet, for a subscriber that has a record then. Assumes nothing.
 use mathlib.Core.Path.{_≡_, refl, sym, _∙_, ap}
-use mathlib.Core.List.{List}
-use mathlib.Core.Bool.{Bool, true, false, cond, _||_}
+use mathlib.Core.Bool.{Bool, true, false, _||_}
 use Prim.Native.Nat.{ℕ}
 use Rattle.std.specs.declared.option.Option.{Option}
 use Rattle.std.specs.declared.option.Option.the-variants.{Some, None}
-use Rattle.store.specs.Model.{at, holds, with-entry}
+use Rattle.store.specs.Model.{holds}
 use Rattle.store.proofs.Maps.{holds-from-some, holds-with-same}
 use Rattle.event.specs.declared.answer.Kind.{Kind}
 use Rattle.event.specs.declared.answer.Kind.the-variants.{RestoreData, UpdateLocation, StandAlone}
@@ -18,7 +17,7 @@ use Rattle.restoration.specs.declared.plan.Plan.{Plan}
 use Rattle.restoration.specs.declared.contacts.Auth.{Auth}
 use Rattle.restoration.specs.declared.contacts.Auth.the-variants.{Failed, Passed}
 use Rattle.restoration.specs.Records.{is-unconfirmed, or-made, only-made, contacted}
-use Rattle.restoration.specs.Plans.{reply-only, unless-open, lacks-data, made-for-call, roaming-number-plan, contact-plan, at-place, moved-to, access-plan, outgoing-with, outgoing-plan, registration-plan, open-update, update-plan}
+use Rattle.restoration.specs.Plans.{reply-only, unless-open, roaming-number-plan, contact-plan, at-place, moved-to, access-plan, outgoing-with, outgoing-plan, open-update, update-plan}
 use Rattle.restoration.specs.State.{State}
 use Rattle.restoration.specs.Steps.{keep, found, busy, provide, accessed, went-out, registered, updating}
 use Rattle.restoration.proofs.Parts.{some-none, some-one}

@@ -1,15 +1,14 @@
 -- A good end leaves a record with groups A and B, and any other leaves its groups as they were. Assumes nothing.
 use mathlib.Core.Path.{_≡_, refl, sym, _∙_, ap, subst}
-use mathlib.Core.List.{List}
-use mathlib.Core.Logic.{_⊎_, inl, inr}
-use mathlib.Core.Bool.{Bool, true, false, cond, not, _&&_, _||_}
+use mathlib.Core.Logic.{inl, inr}
+use mathlib.Core.Bool.{Bool, true, false, not, _&&_}
 use Prim.Native.Nat.{ℕ}
 use lib.Dec.{eqb}
 use borrow.Author.Tests.{eq-eqb, ne-eqb}
 use Rattle.std.proofs.shelf.Tests.{cases-eq, and-parts, and-left, and-right, both-ways}
 use Rattle.std.specs.declared.option.Option.{Option}
 use Rattle.std.specs.declared.option.Option.the-variants.{Some, None}
-use Rattle.store.specs.Model.{at, holds, with-entry}
+use Rattle.store.specs.Model.{at, holds}
 use Rattle.store.proofs.Maps.{at-with-same, at-with-other, holds-from-none}
 use Rattle.event.specs.declared.answer.Kind.{Kind}
 use Rattle.event.specs.declared.answer.Kind.the-variants.{RestoreData, UpdateLocation, StandAlone}

@@ -1,17 +1,16 @@
 -- A register stays sound where dialogues end, where records are cancelled or reset, and at a restart. Assumes nothing.
-use mathlib.Core.Path.{_≡_, refl, sym, _∙_, ap}
-use mathlib.Core.List.{List, []}
-use mathlib.Core.Logic.{_⊎_, inl, inr}
-use mathlib.Core.Bool.{Bool, true, false, cond, not, _||_}
-use Prim.Native.Nat.{ℕ, _<_, _≤_}
+use mathlib.Core.Path.{_≡_, refl, _∙_, ap}
+use mathlib.Core.List.{[]}
+use mathlib.Core.Bool.{Bool, true, false, cond}
+use Prim.Native.Nat.{ℕ}
 use native.Mathlib.Omega.{arith}
 use lib.Dec.{eqb, ltb}
 use lib.ListN.{length}
 use borrow.Author.Tests.{eq-eqb}
-use Rattle.std.proofs.shelf.Tests.{cases-bool, both-ways, not-true, or-left}
+use Rattle.std.proofs.shelf.Tests.{both-ways, not-true, or-left}
 use Rattle.std.specs.declared.option.Option.{Option}
 use Rattle.std.specs.declared.option.Option.the-variants.{Some, None}
-use Rattle.store.specs.Model.{keys, rises, at, holds, without, takes, only, each}
+use Rattle.store.specs.Model.{rises, at, holds, without, only}
 use Rattle.store.proofs.Maps.{rises-without}
 use Rattle.store.proofs.Changes.{at-cleared, holds-without-other}
 use Rattle.dialogue.specs.declared.row.Dialogue.{Dialogue}
@@ -24,7 +23,7 @@ use Rattle.restoration.specs.declared.record.Record.{Record}
 use Rattle.restoration.specs.declared.updates.Outcome.{Outcome}
 use Rattle.restoration.specs.State.{State}
 use Rattle.restoration.specs.Sound.{Sound}
-use Rattle.restoration.specs.Steps.{with-dialogues, keep, has-room, end-of, end-left, end-on, end-after, reset-one, reset-after, cancel-after, restart-after, spending-after}
+use Rattle.restoration.specs.Steps.{with-dialogues, keep, has-room, end-of, end-left, end-on, end-after, reset-one, reset-after, cancel-after, restart-after}
 use Rattle.restoration.proofs.Parts.{some-none, none-rises, without-shorter, keys-each, length-each, holds-each, at-only}
 use Rattle.restoration.proofs.Fewer.{fewer-sound, still-on-record, all-stay, none-stays, one-less, some-stay, meeting}
 use Rattle.restoration.proofs.Opening.{keep-rises, keep-holds, keep-fits}

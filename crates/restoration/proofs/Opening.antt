@@ -2,7 +2,7 @@
 use mathlib.Core.Path.{_≡_, refl, sym, _∙_, ap}
 use mathlib.Core.List.{List}
 use mathlib.Core.Logic.{_⊎_, inl, inr}
-use mathlib.Core.Bool.{Bool, true, false, cond, _&&_, _||_}
+use mathlib.Core.Bool.{Bool, true, false, cond}
 use Prim.Native.Nat.{ℕ, _+_, _<_, _≤_}
 use native.Mathlib.Omega.{arith}
 use lib.Dec.{eqb, ltb}
@@ -13,7 +13,7 @@ use Rattle.std.specs.declared.option.Option.{Option}
 use Rattle.std.specs.declared.option.Option.the-variants.{Some, None}
 use Rattle.key.specs.declared.refusal.Refusal.{Refusal}
 use Rattle.key.specs.declared.refusal.Refusal.the-variants.{StoreFull, TooManyDialogues}
-use Rattle.store.specs.Model.{keys, rises, at, holds, with-entry, takes}
+use Rattle.store.specs.Model.{keys, rises, at, holds, with-entry}
 use Rattle.store.proofs.Maps.{rises-with, at-with-same, at-with-other, holds-from-none, holds-with-same, holds-with-other, length-with-new}
 use Rattle.store.proofs.Changes.{with-within}
 use Rattle.event.specs.declared.answer.Kind.{Kind}
@@ -25,10 +25,10 @@ use Rattle.restoration.specs.declared.record.Record.{Record}
 use Rattle.restoration.specs.declared.plan.Plan.{Plan}
 use Rattle.restoration.specs.State.{State}
 use Rattle.restoration.specs.Sound.{Sound}
-use Rattle.restoration.specs.Steps.{keep, has-room, begun, last-after, no-dialogue, refusal, same-if-refused, done, planned-after, busy}
+use Rattle.restoration.specs.Steps.{keep, has-room, begun, last-after, no-dialogue, same-if-refused, done, planned-after, busy}
 use Rattle.restoration.proofs.Parts.{some-none, some-one, none-such}
 use Rattle.restoration.proofs.Fewer.{fewer-sound, still-on-record, all-stay}
-use Rattle.restoration.proofs.Fair.{Fair, Opens-fairly}
+use Rattle.restoration.proofs.Fair.{Opens-fairly}
 
 pub keep-rises : (es : List (ℕ × Record)) (k : ℕ) (kept : Option Record) → rises (keys es) ≡ true → rises (keys (keep es k kept)) ≡ true
 keep-rises es k None up = up

@@ -1,14 +1,14 @@
 -- Look-up, order and count where each entry of a map is changed, or only some are left. Assumes nothing.
 use mathlib.Core.Path.{_≡_, refl, sym, _∙_, ap}
 use mathlib.Core.List.{List, [], _∷_}
-use mathlib.Core.Logic.{_⊎_, inl, inr}
-use mathlib.Core.Bool.{Bool, true, false, cond, _&&_, _||_}
-use Prim.Native.Nat.{ℕ, suc, _+_, _<_, _≤_}
+use mathlib.Core.Logic.{inl, inr}
+use mathlib.Core.Bool.{Bool, true, false, _||_}
+use Prim.Native.Nat.{ℕ, suc, _<_, _≤_}
 use native.Mathlib.Omega.{arith}
 use lib.Dec.{eqb, ltb}
 use lib.ListN.{length}
-use borrow.Author.Tests.{eq-eqb, ne-eqb, ltb-true}
-use Rattle.std.proofs.shelf.Tests.{cases-bool, cases-eq, and-parts, and-from, or-parts, cond-both, eqb-true}
+use borrow.Author.Tests.{ltb-true}
+use Rattle.std.proofs.shelf.Tests.{cases-bool, and-parts, and-from, or-parts, cond-both, eqb-true}
 use Rattle.std.specs.declared.option.Option.{Option}
 use Rattle.std.specs.declared.option.Option.the-variants.{Some, None}
 use Rattle.store.specs.Model.{keys, climbs, rises, at, holds, without, any, only, each}

@@ -1,8 +1,8 @@
 -- A register is sound from its start on, whatever comes. Assumes nothing.
-use mathlib.Core.Path.{_≡_, refl}
+use mathlib.Core.Path.{_≡_}
 use mathlib.Core.List.{List, []}
 use mathlib.Core.Bool.{Bool, true, false}
-use Prim.Native.Nat.{ℕ, _≤_}
+use Prim.Native.Nat.{ℕ}
 use native.Mathlib.Omega.{arith}
 use lib.Dec.{ltb}
 use lib.ListN.{length}
@@ -19,10 +19,9 @@ use Rattle.event.specs.Layout.{Event, provide-roaming-number, call-information,
 use Rattle.event.specs.Decoding.{Reading, read, refused, decoded}
 use Rattle.dialogue.specs.declared.row.Dialogue.{Dialogue}
 use Rattle.dialogue.specs.Dialogues as comes
-use Rattle.dialogue.specs.Dialogues.{Comes}
 use Rattle.restoration.specs.declared.record.Record.{Record}
 use Rattle.restoration.specs.State.{State, started}
-use Rattle.restoration.specs.Steps.{after, answered, same-unless, planned-after, provide, accessed, went-out, registered, updating, insert-after, end-after, reset-after, cancel-after, auth-of, outcome-of, is-imsi, is-contact, is-message, handed, sent-if, sent-out, spending-after}
+use Rattle.restoration.specs.Steps.{after, answered, same-unless, planned-after, provide, accessed, went-out, registered, updating, insert-after, end-after, reset-after, cancel-after, auth-of, outcome-of, is-imsi, is-contact, is-message, handed, sent-if, sent-out}
 use Rattle.restoration.specs.Received.{if-area, reading-after, received-after}
 use Rattle.restoration.specs.Sound.{Sound, Stays-sound}
 use Rattle.restoration.proofs.Parts.{some-none, none-rises}

@@ -1,7 +1,6 @@
 -- No event but an End changes the groups of a record. Assumes nothing.
 use mathlib.Core.Path.{_≡_, refl, sym, _∙_, ap}
-use mathlib.Core.List.{List, []}
-use mathlib.Core.Logic.{_⊎_, inl, inr}
+use mathlib.Core.Logic.{inl, inr}
 use mathlib.Core.Bool.{Bool, true, false, cond, _||_}
 use Prim.Native.Nat.{ℕ}
 use Rattle.std.proofs.shelf.Tests.{cases-bool, cases-eq, both-ways}
@@ -9,9 +8,9 @@ use Rattle.std.specs.declared.option.Option.{Option}
 use Rattle.std.specs.declared.option.Option.the-variants.{Some, None}
 use Rattle.key.specs.declared.refusal.Refusal.{Refusal}
 use Rattle.key.specs.Figures.{begins}
-use Rattle.store.specs.Model.{keys, rises, at, holds, with-entry, without, each, each-at}
+use Rattle.store.specs.Model.{keys, rises, at, holds, with-entry, without, each-at}
 use Rattle.store.proofs.Maps.{at-with-same, at-with-other, at-without-other, at-each}
-use Rattle.store.proofs.Changes.{holds-cleared, holds-without-same}
+use Rattle.store.proofs.Changes.{holds-without-same}
 use Rattle.restoration.specs.declared.record.Record.{Record}
 use Rattle.restoration.specs.declared.record.Place.{Place}
 use Rattle.restoration.specs.declared.record.Indicator.{Indicator}
@@ -20,9 +19,9 @@ use Rattle.restoration.specs.declared.plan.Plan.{Plan}
 use Rattle.restoration.specs.declared.contacts.Auth.{Auth}
 use Rattle.restoration.specs.declared.contacts.Auth.the-variants.{Failed, Passed}
 use Rattle.restoration.specs.Records.{is-unconfirmed, only-made, or-made, relocated}
-use Rattle.restoration.specs.Plans.{record-data, contact-plan, roaming-number-plan, at-place, moved-to, access-plan, outgoing-with, outgoing-plan, registration-plan, open-update, update-plan}
+use Rattle.restoration.specs.Plans.{record-data, contact-plan, roaming-number-plan, at-place, moved-to, access-plan, outgoing-with, outgoing-plan, registration-plan, update-plan}
 use Rattle.restoration.specs.State.{State}
-use Rattle.restoration.specs.Steps.{keep, found, busy, refusal, same-if-refused, done, planned-after, reset-one, reset-after, cancel-after, restart-after}
+use Rattle.restoration.specs.Steps.{keep, found, busy, refusal, same-if-refused, done, planned-after, reset-one, reset-after, cancel-after}
 
 -- the record to keep has the groups of the old one, and none where there was none
 abbrev pub Adds-nothing : Option Record → Option Record → Type 0
