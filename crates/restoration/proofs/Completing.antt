@@ -5,6 +5,7 @@ use mathlib.Core.Logic.{inl, inr}
 use mathlib.Core.Bool.{Bool, true, false, _||_}
 use Prim.Native.Nat.{ℕ}
 use lib.Dec.{eqb, ltb}
+use lib.ListN.{length}
 use Rattle.std.proofs.shelf.Tests.{cases-bool, both-ways, and-left, eqb-true}
 use Rattle.std.specs.declared.option.Option.{Option}
 use Rattle.std.specs.declared.option.Option.the-variants.{Some, None}
@@ -17,6 +18,7 @@ use Rattle.store.proofs.Maps.{none-from-holds}
 use Rattle.store.proofs.Changes.{holds-cleared}
 use Rattle.event.specs.declared.answer.Answer.{Answer}
 use Rattle.event.specs.Layout.{Event, provide-roaming-number, call-information, short-message-v2, short-message-v1, location-request, access, outgoing, registration, open-update, insert, end, reset, cancel, restart}
+use Rattle.event.specs.Decoding.{Reading, read, refused, decoded}
 use Rattle.dialogue.specs.declared.data.SubscriberData.{SubscriberData}
 use Rattle.dialogue.specs.declared.row.Dialogue.{Dialogue}
 use Rattle.dialogue.specs.Data.{no-data, is-complete}
@@ -25,8 +27,9 @@ use Rattle.restoration.specs.declared.plan.Plan.{Plan}
 use Rattle.restoration.specs.Plans.{record-data}
 use Rattle.restoration.specs.State.{State}
 use Rattle.restoration.specs.Steps.{after, answered, found, busy, same-unless, planned-after, provide, accessed, went-out, registered, updating, insert-after, reset-after, cancel-after, auth-of, outcome-of, is-imsi, is-contact, is-message, handed, sent-if, sent-out}
+use Rattle.restoration.specs.Received.{if-area, reading-after}
 use Rattle.restoration.specs.Sound.{Sound}
-use Rattle.restoration.specs.Complete.{is-for, says-done, good-end, Data-law}
+use Rattle.restoration.specs.Complete.{is-for, says-done, good-end, records-read, Data-law}
 use Rattle.event.specs.declared.answer.Kind.the-variants.{RestoreData, UpdateLocation, StandAlone}
 use Rattle.restoration.proofs.Unsupplied.{Adds-nothing, plain-provide, plain-access, plain-outgoing, plain-registration, plain-update, planned-plain, reset-plain, cancel-plain}
 use Rattle.restoration.proofs.GoodEnds.{Supplied, unsupplied, end-supplies}
@@ -103,11 +106,16 @@ sent-records (Ok a) t = by (handed (a .opened))
     by None = refl
     by (Some n) = refl
 
+read-records : (s : State) (short : Bool) (r : Reading) → if-area short s (reading-after s r) .records ≡ if-area short (s .records) (records-read s r)
+read-records s true r = refl
+read-records s false (read e n) = sent-records (answered s e) (after s e)
+read-records s false (refused x) = refl
+
 pub data-law : Data-law
 data-law = record {
   by-event = λ s sound e k h. both (good-end s e k) (record-data (found s k)) (record-data (found (after s e) k)) (supplies s sound k e h);
   otherwise = λ s sound e k h. supplies s sound k e h .same;
   when-made = λ s sound e k off. (no-good-end s sound k off e, made-bare s sound k off e);
   by-spending = λ s n c. refl;
-  by-bytes = λ s e n. sent-records (answered s e) (after s e);
+  by-bytes = λ s input area. read-records s (ltb (length area) 16) (decoded input);
 }

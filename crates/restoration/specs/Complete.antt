@@ -1,8 +1,10 @@
 -- When a record has groups A and B: from its first good end on. Assumes nothing.
 use mathlib.Core.Path.{_≡_}
+use mathlib.Core.List.{List}
 use mathlib.Core.Bool.{Bool, true, false, _&&_, _||_}
 use Prim.Native.Nat.{ℕ}
-use lib.Dec.{eqb}
+use lib.Dec.{eqb, ltb}
+use lib.ListN.{length}
 use Rattle.std.specs.declared.option.Option.{Option}
 use Rattle.std.specs.declared.option.Option.the-variants.{Some, None}
 use Rattle.std.specs.declared.result.Result.{Result}
@@ -13,7 +15,7 @@ use Rattle.event.specs.declared.answer.Answer.{Answer}
 use Rattle.event.specs.declared.answer.Reply.{Reply}
 use Rattle.event.specs.declared.answer.Reply.the-variants.{Done, UnidentifiedSubscriber, IllegalSubscriber, SystemFailure, DataMissing, UnexpectedDataValue}
 use Rattle.event.specs.Layout.{Event, provide-roaming-number, call-information, short-message-v2, short-message-v1, location-request, access, outgoing, registration, open-update, insert, end, reset, cancel, restart}
-use Rattle.event.specs.Decoding.{read}
+use Rattle.event.specs.Decoding.{Reading, read, refused, decoded}
 use Rattle.dialogue.specs.declared.row.Dialogue.{Dialogue}
 use Rattle.dialogue.specs.Dialogues.{Comes}
 use Rattle.dialogue.specs.Data.{no-data, is-complete}
@@ -21,7 +23,7 @@ use Rattle.restoration.specs.declared.record.Record.{Record}
 use Rattle.restoration.specs.Plans.{record-data}
 use Rattle.restoration.specs.State.{State}
 use Rattle.restoration.specs.Steps.{answered, after, found, spending-after}
-use Rattle.restoration.specs.Received.{reading-after}
+use Rattle.restoration.specs.Received.{if-area, received-after}
 use Rattle.restoration.specs.Sound.{Sound}
 
 -- a record has groups A and B; where there is none, there are none
@@ -63,6 +65,11 @@ good-end s (reset digits value) k = false
 good-end s (cancel q) k = false
 good-end s restart k = false
 
+-- the records after the event that bytes are read as, if they are one
+abbrev pub records-read : State → Reading → List (ℕ × Record)
+records-read s (read e n) = after s e .records
+records-read s (refused x) = s .records
+
 pub record Data-law : Type 0 where
   -- a record has A and B after an event exactly when this was a good end for it, or it had them before
   pub by-event : (s : State) → Sound s → (e : Event) (k : ℕ) → holds (after s e .records) k ≡ true → has-both (found (after s e) k) ≡ (good-end s e k || has-both (found s k))
@@ -70,6 +77,7 @@ pub record Data-law : Type 0 where
   pub otherwise : (s : State) → Sound s → (e : Event) (k : ℕ) → holds (after s e .records) k ≡ true → good-end s e k ≡ false → record-data (found (after s e) k) ≡ record-data (found s k)
   -- where there was no record it was no good end, and a record that the event made has no group
   pub when-made : (s : State) → Sound s → (e : Event) (k : ℕ) → holds (s .records) k ≡ false → (good-end s e k ≡ false) × (record-data (found (after s e) k) ≡ no-data)
-  -- spending an invoke changes no record, and in bytes an event does to them what it does directly
+  -- spending an invoke changes no record
   pub by-spending : (s : State) (n : ℕ) (c : Comes) → spending-after s n c .records ≡ s .records
-  pub by-bytes : (s : State) (e : Event) (n : ℕ) → reading-after s (read e n) .records ≡ after s e .records
+  -- in bytes an event does to the records what it does directly
+  pub by-bytes : (s : State) (input area : List ℕ) → received-after s input area .records ≡ if-area (ltb (length area) 16) (s .records) (records-read s (decoded input))
