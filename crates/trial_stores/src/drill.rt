@@ -19,7 +19,7 @@ pub enum Arrival {
 }
 
 impl Arrival {
-    /// The place of the key that arrives in a turn. Each is as many places on from the one before.
+    /// The place of the key that arrives in a turn: always as many places on from the one before, and round again past the last.
     fn place(self, turn: usize) -> u64 {
         let step = match self {
             Arrival::Rising => 1,
@@ -65,8 +65,8 @@ pub fn compare<K: Key<LIMIT>, S: RecordStore<K, u32, LIMIT>, const LIMIT: u64>(
     plain: &PlainList,
     spread: u64,
 ) -> Result<(), Fail> {
-    check_eq(store.count(), plain.count()).note("count")?;
-    check_eq(store.room(), plain.room()).note("room")?;
+    let same = store.count() == plain.count() && store.room() == plain.room();
+    check(same).note("count or room")?;
     check_eq(number_of(store.next(&None)), plain.least_from(0)).note("next")?;
     for place in 0..KEYS {
         let k: K = key_at(place, spread)?;
@@ -168,11 +168,11 @@ fn both_ends<K: Key<LIMIT>, S: RecordStore<K, u32, LIMIT>, const LIMIT: u64>(
     let last: K = key_at(LIMIT.wrapping_sub(1), 1)?;
     put_both(store, plain, last, 1, 1)?;
     put_both(store, plain, first, 2, 1)?;
-    check_eq(store.find(last), plain.find(last.to_number())).note("find the last")?;
-    check_eq(number_of(store.next(&Some(first))), plain.least_from(1)).note("next but far")?;
-    check(store.next(&Some(last)).is_none()).note("next above the last")?;
-    remove_both(store, plain, last, 1)?;
-    check(K::from_number(LIMIT).is_none()).note("limit")
+    let found = store.find(last) == plain.find(last.to_number());
+    let next = number_of(store.next(&Some(first))) == plain.least_from(1);
+    let end = store.next(&Some(last)).is_none() && K::from_number(LIMIT).is_none();
+    check(found && next && end).note("the last key of all")?;
+    remove_both(store, plain, last, 1)
 }
 
 /// Runs the store through each fill, with keys side by side and as far apart as they go, arriving in each order.
@@ -189,23 +189,41 @@ pub fn every_fill<K: Key<LIMIT>, S: RecordStore<K, u32, LIMIT>, const LIMIT: u64
     both_ends(store, &mut plain)
 }
 
-/// A store of the largest room, filled in rising order: the last place is taken, given back and taken again.
-pub fn largest_room<K: Key<LIMIT>, S: RecordStore<K, u32, LIMIT>, const LIMIT: u64>(
+/// The same for a store that is not wanted afterwards.
+pub fn every_fill_of<K: Key<LIMIT>, S: RecordStore<K, u32, LIMIT> + Drop, const LIMIT: u64>(
+    store: S,
+    heap: Global,
+) -> Result<(), Fail> {
+    let mut store = store;
+    every_fill::<K, S, LIMIT>(&mut store, heap)
+}
+
+/// Puts each number below 65,536 at the key of that number, in rising order.
+fn fill_largest<K: Key<LIMIT>, S: RecordStore<K, u32, LIMIT>, const LIMIT: u64>(
     store: &mut S,
 ) -> Result<(), Fail> {
-    check_eq(store.room(), MOST_ROOM)?;
     for number in 0..65_536u32 {
         let k: K = key_at(number as u64, 1)?;
         check_eq(number_answered(store.put(k, number)), 0)?;
     }
+    Ok(())
+}
+
+/// A store of the largest room, filled: the last place is taken, given back and taken again.
+pub fn largest_room<K: Key<LIMIT>, S: RecordStore<K, u32, LIMIT> + Drop, const LIMIT: u64>(
+    store: S,
+) -> Result<(), Fail> {
+    let mut store = store;
+    fill_largest::<K, S, LIMIT>(&mut store)?;
     let first: K = key_at(0, 1)?;
     let last: K = key_at(65_535, 1)?;
     let more: K = key_at(65_536, 1)?;
-    check_eq(number_answered(store.put(more, 1)), 5)?;
-    check_eq(store.count(), MOST_ROOM)?;
-    check(store.remove(first))?;
-    check_eq(number_answered(store.put(more, 1)), 0)?;
-    check_eq(store.find(last), Some(65_535))?;
-    check_eq(store.find(more), Some(1))?;
-    check_eq(number_answered(store.put(first, 1)), 5)
+    let refused = number_answered(store.put(more, 1));
+    let stood = store.remove(first);
+    let taken = number_answered(store.put(more, 2));
+    let again = number_answered(store.put(first, 3));
+    let full = store.room() == MOST_ROOM && store.count() == MOST_ROOM;
+    let found = store.find(last) == Some(65_535) && store.find(more) == Some(2);
+    check(refused == 5 && stood && taken == 0 && again == 5).note("the last place")?;
+    check(full && found && store.find(first).is_none()).note("a full store")
 }

@@ -1,6 +1,6 @@
 //! Rows, the tree, and stores with a back-up made of either, against the plain list.
 use crate::backing::every_fill_backed;
-use crate::drill::every_fill;
+use crate::drill::every_fill_of;
 use crate::drill::largest_room;
 use key::IMSI_LIMIT;
 use key::Imsi;
@@ -59,10 +59,10 @@ fn rows_backed_by_tree(
 fn rows_and_tree_at_every_fill(rt: LibcRuntime) -> Result<(), Fail> {
     let heap = rt.alloc();
     for room in 0..7 {
-        every_fill(&mut imsi_rows(heap, room)?, heap)?;
-        every_fill(&mut tmsi_rows(heap, room)?, heap)?;
-        every_fill(&mut imsi_tree(heap, room)?, heap)?;
-        every_fill(&mut tmsi_tree(heap, room)?, heap)?;
+        every_fill_of(imsi_rows(heap, room)?, heap)?;
+        every_fill_of(tmsi_rows(heap, room)?, heap)?;
+        every_fill_of(imsi_tree(heap, room)?, heap)?;
+        every_fill_of(tmsi_tree(heap, room)?, heap)?;
     }
     Ok(())
 }
@@ -95,6 +95,6 @@ fn stores_with_a_back_up_inside_another(rt: LibcRuntime) -> Result<(), Fail> {
 
 #[test]
 fn more_memory_than_room(rt: LibcRuntime) -> Result<(), Fail> {
-    largest_room(&mut tmsi_rows(rt.alloc(), MOST_ROOM + 3)?)?;
-    largest_room(&mut tmsi_tree(rt.alloc(), MOST_ROOM + 3)?)
+    largest_room(tmsi_rows(rt.alloc(), MOST_ROOM + 3)?)?;
+    largest_room(tmsi_tree(rt.alloc(), MOST_ROOM + 3)?)
 }
