@@ -54,24 +54,3 @@ pub impl fmt::Display for Imsi as ImsiDisplay {
         write!(f, "{number:015}")
     }
 }
-
-#[cfg(test)]
-mod tests {
-    use super::*;
-    use std::test::*;
-
-    // Leading zeros count: 001010000000001 begins with 00101, and not with 00010.
-    #[test]
-    fn leading_zeros_are_digits(rt: LibcRuntime) -> Result<(), Fail> {
-        let Some(imsi) = Imsi::new(1_010_000_000_001) else {
-            return Err(Fail::new("no IMSI"));
-        };
-        let text = format!(rt.alloc(), "{imsi}")?;
-        check(text.as_str() == "001010000000001")?;
-        let (Some(own), Some(other)) = (HlrId::new(5, 101), HlrId::new(5, 10)) else {
-            return Err(Fail::new("no HLR-Id"));
-        };
-        check(imsi.begins_with(own))?;
-        check(!imsi.begins_with(other))
-    }
-}
