@@ -1,4 +1,7 @@
 //! Plays a site's journal, read from standard input, and prints what was done, a line for each call.
+
+#![tactic(auto)]
+
 mod register;
 mod show;
 mod site;

@@ -1,4 +1,7 @@
 //! Dialogues with a home register: the subscriber data that is sent in them, drafts, and the table of open dialogues.
+
+#![tactic(auto)]
+
 mod data;
 mod draft;
 mod group;

@@ -1,4 +1,7 @@
 //! What a visitor register is told and what it says: events in bytes and as a type, and answers.
+
+#![tactic(auto)]
+
 mod answer;
 mod decoding;
 mod events;

@@ -1,4 +1,7 @@
 //! A site's journal: text, one call to a line.
+
+#![tactic(auto)]
+
 mod call;
 mod hex;
 mod reading;

@@ -1,4 +1,7 @@
 //! What a subscriber is known by: keys, the digits of an IMSI, and why a call is refused.
+
+#![tactic(auto)]
+
 mod digits;
 mod hlr_id;
 mod identity;

@@ -1,4 +1,7 @@
 //! What each event comes to for one subscriber, whatever else a visitor register holds: records, indicators and plans.
+
+#![tactic(auto)]
+
 mod calls;
 mod contacts;
 mod plan;

@@ -1,4 +1,7 @@
 //! Record stores: what a store means, rows in key order, and a store with a back-up.
+
+#![tactic(auto)]
+
 mod backed;
 mod meaning;
 mod order;

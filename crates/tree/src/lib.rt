@@ -1,5 +1,8 @@
 //! A record store as a digital search tree in nodes that are handed in. Its depth is at most the number of binary
 //! digits of a key, plus one, whatever keys come and in whatever order.
+
+#![tactic(auto)]
+
 mod find;
 mod free;
 mod head;

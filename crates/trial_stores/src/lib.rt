@@ -1,5 +1,8 @@
 //! Any record store beside a plain list: the same calls go to both, and every answer is compared. All of it is for the
 //! tests, and none of it for other crates.
+
+#![tactic(auto)]
+
 #[cfg(test)]
 mod backing;
 #[cfg(test)]

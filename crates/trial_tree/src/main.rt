@@ -1,4 +1,7 @@
 //! A full tree: 65,536 subscribers that arrive in rising order, which would make a list of a plain binary tree.
+
+#![tactic(auto)]
+
 use key::{IMSI_LIMIT, Imsi, Key};
 use std::io;
 use store::RecordStore;

@@ -1,4 +1,7 @@
 //! The visitor location register, above any record store.
+
+#![tactic(auto)]
+
 mod endings;
 mod events;
 mod forms;

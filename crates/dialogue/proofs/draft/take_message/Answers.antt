@@ -9,14 +9,14 @@ loop-i-preserved c =
     let now : Progress = record { draft = c.loop-i.guard.draft.now; ignored = c.loop-i.ignored } in
     let draft-is = c.put.ensures in
     let ignored-is = c.noted-ignored.ensures in
-    let turn = turn_takes (length s / 11) c.loop-i.i s now c.in-ok-group.group c.loop-i-test.true c.in-ok-group.ensures in
+    let turn = turn_takes (length s / 11) c.loop-i.i s now c.in_ok-group.group c.loop-i-test.true c.in_ok-group.ensures in
     (refl, refl, simp (draft-is, ignored-is) (turn ∙ c.loop-i.invariant.2))
 
-pub returns-in-err-group : goal.returns-in-err-group
-returns-in-err-group c =
+pub returns-in_err-group : goal.returns-in_err-group
+returns-in_err-group c =
     let s = c.args.groups.now in
     let now : Progress = record { draft = c.loop-i.guard.draft.now; ignored = c.loop-i.ignored } in
-    let none : message (length s / 11) s c.args.draft.now ≡ None = sym c.loop-i.invariant.2 ∙ turn_rejects (length s / 11) c.loop-i.i s now c.loop-i-test.true c.in-err-group.ensures in
+    let none : message (length s / 11) s c.args.draft.now ≡ None = sym c.loop-i.invariant.2 ∙ turn_rejects (length s / 11) c.loop-i.i s now c.loop-i-test.true c.in_err-group.ensures in
     record { answer = c.from-residual.ensures ∙ sym (ap message_ignored none); draft = rw none (search rules) }
 
 pub returns : goal.returns

@@ -14,7 +14,7 @@ returns c =
     let end = c.min-end.result in
     let part : take (end - start) (drop start s) ≡ take w (drop i s) = cut_part w i start end s (omega arith) (omega arith) in
     record {
-      is = c.big-endian.ensures.is ∙ ap (λ t. number_from_digits 256 t % 18446744073709551616) part;
-      whole = λ l few. c.big-endian.ensures.whole (omega (arith, ap length part, length_part w i s l)) ∙ ap (number_from_digits 256) part;
-      below = λ l few. subst (λ n. c.big-endian.result < 256 ^ n) (ap length part ∙ length_part w i s l) (c.big-endian.ensures.below (omega (arith, ap length part, length_part w i s l)));
+      is = c.big_endian.ensures.is ∙ ap (λ t. number_from_digits 256 t % 18446744073709551616) part;
+      whole = λ l few. c.big_endian.ensures.whole (omega (arith, ap length part, length_part w i s l)) ∙ ap (number_from_digits 256) part;
+      below = λ l few. subst (λ n. c.big_endian.result < 256 ^ n) (ap length part ∙ length_part w i s l) (c.big_endian.ensures.below (omega (arith, ap length part, length_part w i s l)));
     }

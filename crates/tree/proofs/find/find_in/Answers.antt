@@ -8,8 +8,8 @@ use Rattle.tree.proofs.find.find_in.Goals as goal
 pub bounds-nodes-i : goal.bounds-nodes-i
 bounds-nodes-i g c = (ready c.args.nodes.now c.args.head c.requires.wf c.args.key c.in-Some.i (sym c.seek.ensures.at ∙ c.in-Some.is)).within
 
-pub offset-bounds-nodes-i : goal.offset-bounds-nodes-i
-offset-bounds-nodes-i g c = let lt : c.in-Some.i < length c.args.nodes.now = (ready c.args.nodes.now c.args.head c.requires.wf c.args.key c.in-Some.i (sym c.seek.ensures.at ∙ c.in-Some.is)).within in omega arith
+pub offset_bounds-nodes-i : goal.offset_bounds-nodes-i
+offset_bounds-nodes-i g c = let lt : c.in-Some.i < length c.args.nodes.now = (ready c.args.nodes.now c.args.head c.requires.wf c.args.key c.in-Some.i (sym c.seek.ensures.at ∙ c.in-Some.is)).within in omega arith
 
 pub returns-in-None : goal.returns-in-None
 returns-in-None g c = sym (find_none c.args.nodes.now c.args.head c.requires.wf c.args.key c.requires.key (sym c.seek.ensures.at ∙ c.in-None.is))

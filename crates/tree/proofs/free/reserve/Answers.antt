@@ -7,8 +7,8 @@ use Rattle.tree.proofs.free.reserve.Goals as goal
 pub bounds-nodes-i : goal.bounds-nodes-i
 bounds-nodes-i g c = freed-within c.args.nodes.now c.args.head c.in-Some.i c.requires c.in-Some.is
 
-pub offset-bounds-nodes-i : goal.offset-bounds-nodes-i
-offset-bounds-nodes-i g c = let lt : c.in-Some.i < length c.args.nodes.now = freed-within c.args.nodes.now c.args.head c.in-Some.i c.requires c.in-Some.is in omega arith
+pub offset_bounds-nodes-i : goal.offset_bounds-nodes-i
+offset_bounds-nodes-i g c = let lt : c.in-Some.i < length c.args.nodes.now = freed-within c.args.nodes.now c.args.head c.in-Some.i c.requires c.in-Some.is in omega arith
 
 pub returns-in-Some : goal.returns-in-Some
 returns-in-Some g c =

@@ -7,8 +7,8 @@ use Rattle.tree.proofs.order.least_from.Goals as goal
 pub loop-level-init : goal.loop-level-init
 loop-level-init g c = sink_begin c.args.bits c.requires.link c.requires.tree
 
-pub offset-bounds-nodes-i : goal.offset-bounds-nodes-i
-offset-bounds-nodes-i g c = let lt : c.in-Some.i < length c.args.nodes.now = sink_ok c.loop-level.invariant c.in-Some.is in omega arith
+pub offset_bounds-nodes-i : goal.offset_bounds-nodes-i
+offset_bounds-nodes-i g c = let lt : c.in-Some.i < length c.args.nodes.now = sink_ok c.loop-level.invariant c.in-Some.is in omega arith
 
 pub bounds-nodes-i : goal.bounds-nodes-i
 bounds-nodes-i g c = sink_ok c.loop-level.invariant c.in-Some.is

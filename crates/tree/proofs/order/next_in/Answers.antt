@@ -37,11 +37,11 @@ loop-level-preserved g c =
 pub bounds-nodes-i : goal.bounds-nodes-i
 bounds-nodes-i g c = hunt_ok c.loop-level.invariant c.in-Some.is
 
-pub offset-bounds-nodes-i : goal.offset-bounds-nodes-i
-offset-bounds-nodes-i g c = let lt : c.in-Some.i < length c.args.nodes.now = hunt_ok c.loop-level.invariant c.in-Some.is in omega arith
+pub offset_bounds-nodes-i : goal.offset_bounds-nodes-i
+offset_bounds-nodes-i g c = let lt : c.in-Some.i < length c.args.nodes.now = hunt_ok c.loop-level.invariant c.in-Some.is in omega arith
 
-pub overflow-add-low : goal.overflow-add-low
-overflow-add-low g c = let ge = went_right _ _ _ c.side-of.ensures c.in-Right.is in omega (arith, ge)
+pub overflow_add-low : goal.overflow_add-low
+overflow_add-low g c = let ge = went_right _ _ _ c.side-of.ensures c.in-Right.is in omega (arith, ge)
 
 pub least-from-requires-2 : goal.least-from-requires-2
 least-from-requires-2 g c = let b = aside c.loop-level.invariant in record { link = b.link-is; tree = b.is; bits = c.args.head.width.most }

@@ -17,10 +17,10 @@ returns-in-Some g c =
     let a = again c.args.nodes.now c.renew.new.nodes c.args.head c.requires.wf c.args.key c.in-Some.i c.args.record c.requires.key (sym c.seek-spot.ensures.at ∙ c.in-Some.is) c.renew.ensures c.renew.auto.nodes in
     (a.wf, a.entries_are, refl)
 
-pub returns-in-err-spare : goal.returns-in-err-spare
-returns-in-err-spare g c =
+pub returns-in_err-spare : goal.returns-in_err-spare
+returns-in_err-spare g c =
     let ns = c.args.nodes.now in
     let h = c.args.head in
     let p = err_from_is_err_and c.from-residual.result c.from-residual.ensures.1 in
-    let full = c.in-err-spare.ensures in
+    let full = c.in_err-spare.ensures in
     subst (λ (r : Result Head Refusal). PutDone ns ns h c.args.key c.args.record r) (sym p.1) (p.2 ∙ full.0, refl, find_none ns h c.requires.wf c.args.key c.requires.key (sym c.seek-spot.ensures.at ∙ c.in-default.is), full.1)

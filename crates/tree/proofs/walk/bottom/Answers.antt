@@ -11,8 +11,8 @@ loop-level-init g c = down_begin _ c.requires.node c.requires.tree c.requires.le
 pub bounds-nodes-tip : goal.bounds-nodes-tip
 bounds-nodes-tip g c = down_ok c.loop-level.invariant
 
-pub offset-bounds-nodes-tip : goal.offset-bounds-nodes-tip
-offset-bounds-nodes-tip g c = let lt : c.loop-level.tip.at < length c.args.nodes.now = down_ok c.loop-level.invariant in omega arith
+pub offset_bounds-nodes-tip : goal.offset_bounds-nodes-tip
+offset_bounds-nodes-tip g c = let lt : c.loop-level.tip.at < length c.args.nodes.now = down_ok c.loop-level.invariant in omega arith
 
 pub loop-level-preserved : goal.loop-level-preserved
 loop-level-preserved g c =

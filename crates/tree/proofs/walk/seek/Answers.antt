@@ -16,8 +16,8 @@ loop-level-init g c =
 pub bounds-nodes-i : goal.bounds-nodes-i
 bounds-nodes-i g c = index_ok c.loop-level.invariant c.in-Some.is
 
-pub offset-bounds-nodes-i : goal.offset-bounds-nodes-i
-offset-bounds-nodes-i g c = offset_ok c.loop-level.invariant c.in-Some.is
+pub offset_bounds-nodes-i : goal.offset_bounds-nodes-i
+offset_bounds-nodes-i g c = offset_ok c.loop-level.invariant c.in-Some.is
 
 pub side-of-side-requires : goal.side-of-side-requires
 side-of-side-requires g c = c.loop-level.invariant.from
@@ -43,8 +43,8 @@ returns-then-node-key g c =
 pub returns-in-default : goal.returns-in-default
 returns-in-default g c = let f = none (rw c.in-default.is at c.loop-level.invariant) in record { at = sym f.0; under = sym f.1 }
 
-pub overflow-add-low : goal.overflow-add-low
-overflow-add-low g c = let ge = went_right _ _ _ c.side-of-side.ensures c.in-Right.is in omega (arith, ge)
+pub overflow_add-low : goal.overflow_add-low
+overflow_add-low g c = let ge = went_right _ _ _ c.side-of-side.ensures c.in-Right.is in omega (arith, ge)
 
 pub returns : goal.returns
 returns g c = absurd (omega (arith, c.loop-level.invariant.depth))

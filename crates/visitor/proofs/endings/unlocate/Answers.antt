@@ -20,8 +20,8 @@ pub unreachable-requires : goal.unreachable-requires
 unreachable-requires g c =
     never _ _ _ _ _ _ (g.S.RecordStore.lawful c.args.store.now).rising c.loop-imsi.invariant.1 c.in-Some.ensures (sym c.find.ensures ∙ c.in-default-find.is)
 
-pub overflow-add-count : goal.overflow-add-count
-overflow-add-count g c =
+pub overflow_add-count : goal.overflow_add-count
+overflow_add-count g c =
     let law = g.S.RecordStore.lawful c.args.store.now in
     omega (arith, c.loop-imsi.invariant.2, turn_low _ _ _ _ _ _ law.rising c.loop-imsi.invariant.1 c.in-Some.ensures, law.bounded, law.small)
 

@@ -2,9 +2,9 @@ use Rattle.std.proofs.Common.{refl}
 use Rattle.dialogue.specs.Listed.{listed, numbered}
 use Rattle.dialogue.proofs.table.Table.clear.Goals as goal
 
-pub invariant-of-self : goal.invariant-of-self
+pub invariant_of-self : goal.invariant_of-self
 unfolding numbered
-invariant-of-self c = (refl, (refl, tt))
+invariant_of-self c = (refl, (refl, tt))
 
 pub returns : goal.returns
 unfolding listed

@@ -8,8 +8,8 @@ pub loop-i-init : goal.loop-i-init
 unfolding swept
 loop-i-init c = (refl, refl)
 
-pub invariant-of-self : goal.invariant-of-self
-invariant-of-self c =
+pub invariant_of-self : goal.invariant_of-self
+invariant_of-self c =
     let t = c.loop-i.self in
     (simp length-set t.size, (num_in _ _ (num_unset t.rows t.last c.loop-i.i _ refl (num_of t.rows t.last t.sound)), tt))
 

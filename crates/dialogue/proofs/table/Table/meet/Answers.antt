@@ -5,8 +5,8 @@ use Rattle.dialogue.proofs.Listing.{num_of, num_in, num_put, listed_put, listed-
 use Rattle.dialogue.proofs.Refusing.{kept-unless_refused}
 use Rattle.dialogue.proofs.table.Table.meet.Goals as goal
 
-pub invariant-of-self : goal.invariant-of-self
-invariant-of-self c =
+pub invariant_of-self : goal.invariant_of-self
+invariant_of-self c =
     let t = c.args.self.now in
     let at = c.in-Some.ensures in
     let r = get_or t.rows c.in-Some.i free_row in

@@ -2,9 +2,9 @@ use Rattle.std.proofs.Common.{refl}
 use Rattle.dialogue.specs.Listed.{listed, numbered}
 use Rattle.dialogue.proofs.table.Table.new.Goals as goal
 
-pub invariant-of-result : goal.invariant-of-result
+pub invariant_of-result : goal.invariant_of-result
 unfolding numbered
-invariant-of-result c = (refl, (refl, tt))
+invariant_of-result c = (refl, (refl, tt))
 
 pub returns : goal.returns
 unfolding listed

@@ -13,21 +13,21 @@ opens_live RestoreData = refl
 opens_live UpdateLocation = refl
 opens_live StandAlone = refl
 
-pub invariant-of-self : goal.invariant-of-self
-invariant-of-self c =
+pub invariant_of-self : goal.invariant_of-self
+invariant_of-self c =
     let t = c.args.self.now in
-    let free = c.in-ok-i.ensures in
+    let free = c.in_ok-i.ensures in
     let d : Dialogue = record { number = t.last + 1; imsi = c.number.result; kind = c.args.kind; stage = c.first_stage.result; draft = c.none.result } in
     let live : is_gone d.stage ≡ false = ap is_gone c.first_stage.ensures ∙ opens_live c.args.kind in
-    let within : c.in-ok-i.i < length t.rows = omega (arith, free.0, t.size) in
-    (simp length-set t.size, (num_in _ _ (num_set t.rows t.last c.in-ok-i.i d within free.1 live (num_of t.rows t.last t.sound) (omega arith) c.number.ensures.fifteen), tt))
+    let within : c.in_ok-i.i < length t.rows = omega (arith, free.0, t.size) in
+    (simp length-set t.size, (num_in _ _ (num_set t.rows t.last c.in_ok-i.i d within free.1 live (num_of t.rows t.last t.sound) (omega arith) c.number.ensures.fifteen), tt))
 
 pub returns : goal.returns
 returns c =
     let t = c.args.self.now in
-    let free = c.in-ok-i.ensures in
+    let free = c.in_ok-i.ensures in
     let d : Dialogue = record { number = t.last + 1; imsi = c.number.result; kind = c.args.kind; stage = c.first_stage.result; draft = c.none.result } in
     let live : is_gone d.stage ≡ false = ap is_gone c.first_stage.ensures ∙ opens_live c.args.kind in
-    let within : c.in-ok-i.i < length t.rows = omega (arith, free.0, t.size) in
+    let within : c.in_ok-i.i < length t.rows = omega (arith, free.0, t.size) in
     let is : d ≡ opening (t.last + 1) c.args.imsi.number c.args.kind = let n = c.number.ensures.is in let s = c.first_stage.ensures in let e = c.none.ensures in cc in
-    (free.3, refl, listed-set t.rows c.in-ok-i.i d within free.1 live (above t.rows t.last (t.last + 1) (num_of t.rows t.last t.sound) (omega arith)) ∙ ap (with_entry (listed t.rows) (t.last + 1)) is, refl)
+    (free.3, refl, listed-set t.rows c.in_ok-i.i d within free.1 live (above t.rows t.last (t.last + 1) (num_of t.rows t.last t.sound) (omega arith)) ∙ ap (with_entry (listed t.rows) (t.last + 1)) is, refl)

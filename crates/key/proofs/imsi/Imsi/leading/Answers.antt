@@ -2,5 +2,5 @@ use Rattle.std.proofs.Common.{◌-◌, arith}
 use Rattle.key.proofs.Written.{ten_some}
 use Rattle.key.proofs.imsi.Imsi.leading.Goals as goal
 
-pub nonzero-div-result : goal.nonzero-div-result
-nonzero-div-result c = omega (arith, ten_some (15 - c.args.id.digits))
+pub nonzero_div-result : goal.nonzero_div-result
+nonzero_div-result c = omega (arith, ten_some (15 - c.args.id.digits))

@@ -3,8 +3,8 @@ use Rattle.std.proofs.Common.{refl, arith}
 use Rattle.store.proofs.Held.{held_none, rises-none, below_none, cut-capped}
 use Rattle.store.proofs.rows.Rows.over.Goals as goal
 
-pub invariant-of-result : goal.invariant-of-result
-invariant-of-result g c = let cut = c.truncate.ensures.len in (omega arith, (omega arith, (rises-none _ _ (omega arith), (below_none _ _ _ (omega arith), tt))))
+pub invariant_of-result : goal.invariant_of-result
+invariant_of-result g c = let cut = c.truncate.ensures.len in (omega arith, (omega arith, (rises-none _ _ (omega arith), (below_none _ _ _ (omega arith), tt))))
 
 pub returns : goal.returns
 returns g c =

@@ -3,8 +3,8 @@ use Rattle.std.proofs.Common.{refl, arith}
 use Rattle.store.proofs.Held.{held_none, rises-none, below_none}
 use Rattle.store.proofs.rows_store.RowsRecordStore.clear.Goals as goal
 
-pub invariant-of-self : goal.invariant-of-self
-invariant-of-self g c = (c.args.self.now.small, (omega arith, (rises-none _ _ (omega arith), (below_none _ _ _ (omega arith), tt))))
+pub invariant_of-self : goal.invariant_of-self
+invariant_of-self g c = (c.args.self.now.small, (omega arith, (rises-none _ _ (omega arith), (below_none _ _ _ (omega arith), tt))))
 
 pub returns : goal.returns
 returns g c = record { room = refl; entries = held_none _ _ (omega arith); slots = refl }

@@ -7,8 +7,8 @@ use Rattle.store.specs.Rows.{held, drop_slots}
 use Rattle.store.proofs.Maps.{rises-without, below-without}
 use Rattle.store.proofs.rows_store.RowsRecordStore.remove.Goals as goal
 
-pub invariant-of-self : goal.invariant-of-self
-invariant-of-self g c =
+pub invariant_of-self : goal.invariant_of-self
+invariant_of-self g c =
     let s = c.args.self.now in
     let ws = c.drop-row.new.rows in
     let n = c.in-Some.len in
@@ -18,8 +18,8 @@ invariant-of-self g c =
     let new : held (with_items s.rows ws).items n ≡ without (held s.rows.items s.len) k = ap (λ zs. held zs n) (with_items_is s.rows ws size) ∙ c.in-Some.ensures.2 ∙ ap (λ zs. without (held zs s.len) k) old in
     (s.small, (omega (arith, c.in-Some.ensures.1, s.within), (ap (λ zs. rises (keys zs)) new ∙ rises-without (held s.rows.items s.len) k s.rising, (ap (λ zs. all_below g.row.LIMIT (keys zs)) new ∙ below-without g.row.LIMIT (held s.rows.items s.len) k s.valid, tt))))
 
-pub invariant-of-self-in-None : goal.invariant-of-self-in-None
-invariant-of-self-in-None g c =
+pub invariant_of-self-in-None : goal.invariant_of-self-in-None
+invariant_of-self-in-None g c =
     let s = c.args.self.now in
     let ws = c.drop-row.new.rows in
     let old : c.deref-mut.result.now ≡ s.rows.items = c.deref-mut.ensures.value in

@@ -5,7 +5,7 @@ use Rattle.tree.specs.State.{Sound, stored}
 use Rattle.tree.proofs.Keeps.{after_clear}
 use Rattle.tree.proofs.search_tree.SearchTree.over.Goals as goal
 
-pub invariant-of-result : goal.invariant-of-result
-invariant-of-result g c =
+pub invariant_of-result : goal.invariant_of-result
+invariant_of-result g c =
     let v = c.truncate.new.self in
     (∣ subst (Sound g.row.LIMIT v.items) (sym c.empty.ensures) (after_clear g.row.LIMIT v.items c.of.result (omega (arith, v.ok.0, c.truncate.ensures.len)) c.of.ensures) ∣₁, (subst (λ (k : Head). k.count ≡ length (stored v.items k)) (sym c.empty.ensures) refl, tt))

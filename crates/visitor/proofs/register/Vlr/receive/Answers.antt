@@ -3,9 +3,9 @@ use Rattle.std.proofs.lemmas.Bool.{cond-false}
 use Rattle.visitor.proofs.register.Vlr.receive.Goals as goal
 
 -- the area was long enough
-pub returns-in-err-write : goal.returns-in-err-write
-returns-in-err-write g c =
-    let said = c.in-err-write.ensures.answer in
+pub returns-in_err-write : goal.returns-in_err-write
+returns-in_err-write g c =
+    let said = c.in_err-write.ensures.answer in
     let area = c.args.area.now in
     let long = cond-false (ltb (length area) 16) _ _ (le-ltb (length area) 16 c.if-area-lt-ANSWER-LENGTH.false) in
     let never = said ∙ long in

@@ -13,11 +13,11 @@ refused : (r : Result Answer Refusal) (e : Refusal) → Err e ≡ direct r → r
 refused (Ok a) e h = let z : ◌≡◌ {A = ℕ} 0 1 = cc in let no : ⊥ = omega arith in absurd no
 refused (Err x) e h = cc
 
-pub returns-in-err-answer : goal.returns-in-err-answer
-returns-in-err-answer g c =
+pub returns-in_err-answer : goal.returns-in_err-answer
+returns-in_err-answer g c =
     let p = err_from_is_err_and c.from-residual.result c.from-residual.ensures.1 in
     let s = state g.S.RecordStore.entries g.S.RecordStore.room c.args.self.now in
     let e = as_event c.args.event in
-    let said = c.in-err-answer.ensures in
-    let is = refused _ c.in-err-answer.field-0.0 said.answer in
+    let said = c.in_err-answer.ensures in
+    let is = refused _ c.in_err-answer.field-0.0 said.answer in
     record { answer = p.1 ∙ ap Err p.2 ∙ sym is; after = said.after ∙ sym (ap (λ r. sent_out r (after s e)) is) }

@@ -13,8 +13,8 @@ remove-in-requires g c =
     let u = lent g.row.LIMIT s.nodes s.head s.sound _ c.deref-mut.ensures.value in
     record { wf = u.wf; key = digits_of c.to-number.result u c.to-number.ensures.below }
 
-pub invariant-of-self : goal.invariant-of-self
-invariant-of-self g c =
+pub invariant_of-self : goal.invariant_of-self
+invariant_of-self g c =
     let s = c.args.self.now in
     let old = c.deref-mut.ensures.value in
     let p = c.in-Some.ensures in
@@ -23,8 +23,8 @@ invariant-of-self g c =
     let u = lent g.row.LIMIT s.nodes s.head s.sound _ old in
     (whole g.row.LIMIT s.nodes s.head s.sound _ old ws k c.remove-in.auto.nodes (after-del g.row.LIMIT c.deref-mut.result.now ws s.head k c.to-number.result u p.0 p.1 p.2), (tally g.row.LIMIT s.nodes s.head s.sound _ old ws k c.remove-in.auto.nodes p.0, tt))
 
-pub invariant-of-self-in-None : goal.invariant-of-self-in-None
-invariant-of-self-in-None g c =
+pub invariant_of-self-in-None : goal.invariant_of-self-in-None
+invariant_of-self-in-None g c =
     let s = c.args.self.now in
     let same = as_it_was g.row.LIMIT s.nodes s.head s.sound _ c.deref-mut.ensures.value c.remove-in.new.nodes c.in-None.ensures.0 s.counted in
     (same.0, (same.1, tt))
