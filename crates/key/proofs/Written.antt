@@ -1,13 +1,13 @@
 -- Numbers in figures of any base, there and back. Assumes nothing.
-use Rattle.std.proofs.Common.{◌≡◌, ℕ, zero, suc, ◌+◌, ◌-◌, ◌*◌, ◌/◌, ◌%◌, ◌^◌, ◌<◌, ◌≤◌, min, Bool, true, false, eqb, ◌⊎◌, List, [], ◌∷◌, ◌++◌, length, get_or, take, drop, sym, refl, ap, ◌∙◌, inl, inr, append_assoc, div-lt_iff_lt-mul, pow-suc, div-add-mod', div-one, arith, length-append, length-drop, drop-drop, pow-add, eq-eqb, ne_eqb}
+use Rattle.std.proofs.Common.{◌≡◌, ℕ, zero, suc, ◌+◌, ◌-◌, ◌*◌, ◌/◌, ◌%◌, ◌^◌, ◌<◌, ◌≤◌, min, true, eqb, List, [], ◌∷◌, ◌++◌, length, get_or, take, drop, sym, refl, ap, ◌∙◌, inl, inr, append_assoc, div-lt_iff_lt-mul, pow-suc, div-add-mod', div-one, arith, length-append, length-drop, drop-drop, pow-add, eq-eqb, ne_eqb}
 use native.Mathlib.Nat.{pow-zero, pow-succ', div-div-eq-div-mul}
 use lib.Arith.{digits_div, digits_mod}
 use lib.Seq.{take-nil, take-append-le, take-append_seam, drop-append_seam}
 use Rattle.std.specs.Int.Digits.{number_from_digits, number_from_digits_after, AllBelowBase}
 use Rattle.std.proofs.lemmas.Int.Digits.{number_push, number_lt}
 use Rattle.std.proofs.lemmas.List.{take_all, drop_all, take-append-drop, length-take-le}
-use Rattle.std.proofs.lemmas.Bool.{and_parts, and_from, cases_Bool, cases_eq, cases_lt, eqb-true, both_ways}
-use Rattle.key.specs.Figures.{figures, number_at, alike, begins, imsi_digits}
+use Rattle.std.proofs.lemmas.Bool.{and_parts, and_from, cases_Bool, cases_eq, cases_lt, eqb-true}
+use Rattle.key.specs.Figures.{figures, number_at, alike, begins}
 
 append_nil : (xs : List ℕ) → xs ++ [] ≡ xs
 append_nil [] = refl

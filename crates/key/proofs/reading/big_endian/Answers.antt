@@ -1,4 +1,4 @@
-use Rattle.std.proofs.Common.{◌≡◌, ◌+◌, ◌*◌, ◌^◌, ◌<◌, ◌≤◌, length, take, sym, ap, ◌∙◌, subst, pow-suc, add-one, arith, lit≤}
+use Rattle.std.proofs.Common.{◌≡◌, ◌+◌, ◌*◌, ◌^◌, ◌<◌, ◌≤◌, length, take, ap, ◌∙◌, subst, pow-suc, add-one, arith, lit≤}
 use native.Mathlib.Nat.{pow-le-pow_right}
 use lib.Seq.{take-length}
 use Rattle.std.specs.Int.Digits.{number_from_digits}
