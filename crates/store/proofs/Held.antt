@@ -1,12 +1,11 @@
 -- Rows and the map that they stand for, before and after a row goes in or out. Assumes nothing.
-use Rattle.std.proofs.Common.{◌≡◌, ℕ, zero, suc, ◌+◌, ◌-◌, ◌<◌, ◌≤◌, true, cond, ltb, List, [], ◌∷◌, ◌++◌, map, length, get_or, take, drop, set, sym, refl, ap, ◌∙◌, add-one, arith, ltb-false, ltb-true, le-ltb, lt-ltb}
+use Rattle.std.proofs.Common.{◌≡◌, ℕ, zero, suc, ◌+◌, ◌-◌, ◌<◌, ◌≤◌, true, ltb, List, [], ◌∷◌, ◌++◌, map, length, get_or, take, drop, set, sym, refl, ap, ◌∙◌, add-one, arith, ltb-false, ltb-true, le-ltb, lt-ltb}
 use lib.Seq.{paste, take-set-lt}
 use Rattle.std.proofs.lemmas.Bool.{cond_both}
-use Rattle.std.proofs.lemmas.List.{length-take-le, length-append, length-drop, length_push, drop_more, drop-map, take-map, map-append, drop-take, take_at, take-take, drop_all, set_split, set-append_left, append_assoc, get_or-take}
+use Rattle.std.proofs.lemmas.List.{length-take-le, length-append, length-drop, drop_more, drop-map, take-map, map-append, drop-take, take_at, take-take, drop_all, set_split, set-append_left, append_assoc, get_or-take}
 use Rattle.store.specs.declared.row.Row.{Row}
 use Rattle.store.specs.Model.{keys, rises, all_below, capped, Placed, tally}
 use Rattle.store.specs.Rows.{as_pair, held, rank, opened, closed}
-use Rattle.store.specs.RowsLaws.{length-held}
 
 -- the key of the row at i
 pub key_held : {V : Type 0} (rs : List (Row V)) (n i : ℕ) (d : Row V) → i < n → i < length rs → get_or (keys (held rs n)) i 0 ≡ (get_or rs i d).key

@@ -1,5 +1,5 @@
 -- Rows in key order: the map that they stand for, and which slots a change writes. Assumes nothing.
-use Rattle.std.specs.Prelude.{◌≡◌, ℕ, ◌+◌, ◌-◌, ◌≤◌, Bool, true, false, cond, List, ◌∷◌, ◌++◌, map, length, take, drop, Some, None, Ok, Err, Option, Result, nat_lt, slice_set}
+use Rattle.std.specs.Prelude.{◌≡◌, ℕ, ◌+◌, ◌-◌, ◌≤◌, true, false, cond, List, ◌∷◌, ◌++◌, map, length, take, drop, Some, None, Ok, Err, Option, Result, nat_lt, slice_set}
 use Rattle.key.specs.declared.refusal.Refusal.{Refusal}
 use Rattle.key.specs.declared.refusal.Refusal.TheVariants.{StoreFull}
 use Rattle.store.specs.declared.row.Row.{Row}

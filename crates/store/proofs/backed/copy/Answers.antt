@@ -1,7 +1,7 @@
 -- That a copy clears, then walks and puts, with room for each entry. Assumes nothing.
-use Rattle.std.proofs.Common.{◌≡◌, ℕ, ◌+◌, ◌<◌, ltb, length, Some, None, sym, refl, ap, ◌∙◌, arith, ltb-false, le-ltb}
+use Rattle.std.proofs.Common.{◌≡◌, ◌+◌, ltb, length, sym, refl, ap, ◌∙◌, arith, ltb-false, le-ltb}
 use Rattle.std.proofs.lemmas.Bool.{or_parts}
-use Rattle.store.specs.Model.{up_to, start, numbered, first_from, at, takes, holds, with_entry}
+use Rattle.store.specs.Model.{start, numbered, holds, with_entry}
 use Rattle.store.proofs.Walk.{up_to_none, up_to_all, up_to_more, up_to_short, up_to_longer, first-at, walk_less}
 use Rattle.store.proofs.backed.copy.Goals as goal
 
@@ -9,7 +9,7 @@ pub loop-k-init : goal.loop-k-init
 loop-k-init g c = (refl, cc (up_to_none (g.A.RecordStore.entries c.args.from.now)))
 
 pub unreachable-requires : goal.unreachable-requires
-unreachable-requires g c = first-at (start (numbered g.K.Key.number c.loop-k.last)) (g.K.Key.number c.in-Some.k) (g.A.RecordStore.entries c.args.from.now) (sym c.in-Some.ensures) (sym c.find.ensures ∙ c.in-default-find.is)
+unreachable-requires g c = first-at (start (numbered g.K.Key.number c.loop-k.last)) (g.K.Key.number c.in-Some.k) (g.A.RecordStore.entries c.args.from.now) (sym c.in-Some.ensures) (sym c.find.ensures ∙ c.in_default-find.is)
 
 -- there is room for each entry, since there was for all
 pub unreachable-requires-in-Err : goal.unreachable-requires-in-Err
@@ -43,6 +43,6 @@ returns g c =
     record {
       answer = rw fits;
       room = cc;
-      entries = rw fits (c.loop-k.invariant.1 ∙ up_to_all n es (sym c.next.ensures ∙ ap (numbered g.K.Key.number) c.in-default.is));
+      entries = rw fits (c.loop-k.invariant.1 ∙ up_to_all n es (sym c.next.ensures ∙ ap (numbered g.K.Key.number) c.in_default.is));
       untouched = λ large. let no : ⊥ = omega arith in absurd no;
     }

@@ -1,5 +1,5 @@
 -- The slots and the map after a row goes out. Assumes nothing.
-use Rattle.std.proofs.Common.{◌≡◌, ◌+◌, ◌-◌, ◌<◌, true, length, get_or, sym, refl, ap, ◌∙◌, arith}
+use Rattle.std.proofs.Common.{◌≡◌, ◌-◌, ◌<◌, true, length, get_or, sym, refl, ap, ◌∙◌, arith}
 use Rattle.store.specs.Model.{keys, holds}
 use Rattle.store.specs.Rows.{as_pair, held, rank}
 use Rattle.store.specs.RowsLaws.{length-held}
@@ -21,7 +21,7 @@ returns-then-rows-i g c =
     let same : e.0 ≡ k = omega arith in
     let known : holds (held rs n) k ≡ true = holds-found (held rs n) k i p e here same in
     let rank : rank (held rs n) k ≡ i = rank_placed (held rs n) k i p in
-    let slots = c.copy-within.ensures.after ∙ slots_closed rs n i c.if-i-len.true c.requires.within in (
+    let slots = c.copy_within.ensures.after ∙ slots_closed rs n i c.if-i-len.true c.requires.within in (
       known,
       omega arith,
       ap (λ zs. held zs (n - 1)) slots ∙ held-closed rs n i c.if-i-len.true c.requires.within ∙ sym (without-found (held rs n) k i p e here same),

@@ -1,5 +1,5 @@
 -- That the row at a key's place is the key's, or there is none. Assumes nothing.
-use Rattle.std.proofs.Common.{◌≡◌, Some, sym, ap, ◌∙◌, arith}
+use Rattle.std.proofs.Common.{sym, ap, ◌∙◌, arith}
 use Rattle.store.specs.declared.row.Row.{Row}
 use Rattle.store.specs.Rows.{as_pair, held}
 use Rattle.store.proofs.Maps.{at-found, at_missing}

@@ -1,5 +1,5 @@
 -- That the row at a number's place is the first from it on. Assumes nothing.
-use Rattle.std.proofs.Common.{◌≡◌, get_or, sym, ap, ◌∙◌, arith}
+use Rattle.std.proofs.Common.{get_or, sym, arith}
 use Rattle.store.specs.Rows.{as_pair, held}
 use Rattle.std.proofs.lemmas.List.{drop_all}
 use Rattle.store.proofs.Maps.{first_found, first_past}

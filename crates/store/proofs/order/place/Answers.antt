@@ -1,5 +1,5 @@
 -- That halving keeps to the place of a key. Assumes nothing.
-use Rattle.std.proofs.Common.{◌≡◌, ◌+◌, ◌-◌, ◌/◌, ◌<◌, ◌≤◌, length, get_or, ◌∙◌, arith}
+use Rattle.std.proofs.Common.{◌≡◌, ◌+◌, ◌-◌, ◌/◌, length, ◌∙◌, arith}
 use Rattle.store.specs.Model.{keys}
 use Rattle.store.specs.Rows.{held}
 use Rattle.store.proofs.Maps.{low_more, high_more, length-keys}

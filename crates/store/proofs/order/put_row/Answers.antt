@@ -1,10 +1,9 @@
 -- The slots and the map after a row goes in. Assumes nothing.
-use Rattle.std.proofs.Common.{◌≡◌, ◌+◌, ◌-◌, ◌<◌, true, false, length, get_or, drop, set, sym, refl, ap, ◌∙◌, arith, le-ltb, lt-ltb}
-use lib.Seq.{paste}
+use Rattle.std.proofs.Common.{◌≡◌, ◌+◌, ◌<◌, true, false, length, get_or, set, sym, refl, ap, ◌∙◌, arith, le-ltb, lt-ltb}
 use Rattle.std.proofs.lemmas.Bool.{or_left, or_right, or_from}
 use Rattle.store.specs.declared.row.Row.{Row}
 use Rattle.store.specs.Model.{keys, holds, takes}
-use Rattle.store.specs.Rows.{as_pair, held, rank, opened}
+use Rattle.store.specs.Rows.{as_pair, held, rank}
 use Rattle.store.specs.RowsLaws.{length-held}
 use Rattle.store.proofs.Maps.{holds-found, holds_missing, with_found, with_missing}
 use Rattle.store.proofs.Held.{key_held, drop-held, held-set, held-opened, slots_opened, rank_placed}
@@ -64,7 +63,7 @@ returns g c =
     let new : holds (held rs n) k ≡ false = holds_missing (held rs n) k i p c.requires.rising absent in
     let takes : takes (length rs) (held rs n) k ≡ true = or_right _ _ (lt-ltb (length (held rs n)) (length rs) (omega arith)) in
     let rank : rank (held rs n) k ≡ i = rank_placed (held rs n) k i p in
-    let slots = ap (λ zs. set zs i x) c.copy-within.ensures.after ∙ slots_opened rs n i x c.place-i.ensures.within room in (
+    let slots = ap (λ zs. set zs i x) c.copy_within.ensures.after ∙ slots_opened rs n i x c.place-i.ensures.within room in (
       takes,
       rw new (omega arith),
       omega arith,

@@ -1,5 +1,5 @@
 -- That what is found and counted says whether a put is taken. Assumes nothing.
-use Rattle.std.proofs.Common.{◌≡◌, length, sym, refl, ◌∙◌, arith, le-ltb}
+use Rattle.std.proofs.Common.{length, sym, ◌∙◌, arith, le-ltb}
 use Rattle.store.proofs.Maps.{takes-some, takes_none}
 use Rattle.store.proofs.room.room_for.Goals as goal
 

@@ -1,10 +1,10 @@
 -- That new rows are empty and within the most room. Assumes nothing.
-use Rattle.std.proofs.Common.{refl, arith}
+use Rattle.std.proofs.Common.{arith}
 use Rattle.store.proofs.Held.{held_none, rises-none, below_none, cut-capped}
 use Rattle.store.proofs.rows.Rows.over.Goals as goal
 
 pub invariant_of-result : goal.invariant_of-result
-invariant_of-result g c = let cut = c.truncate.ensures.len in (omega arith, (omega arith, (rises-none _ _ (omega arith), (below_none _ _ _ (omega arith), tt))))
+invariant_of-result g c = let cut = c.truncate.ensures.len in record { small = omega arith; within = omega arith; rising = rises-none _ _ (omega arith); valid = below_none _ _ _ (omega arith) }
 
 pub returns : goal.returns
 returns g c =

@@ -4,7 +4,7 @@ use Rattle.store.proofs.Held.{held_none, rises-none, below_none}
 use Rattle.store.proofs.rows_store.RowsRecordStore.clear.Goals as goal
 
 pub invariant_of-self : goal.invariant_of-self
-invariant_of-self g c = (c.args.self.now.small, (omega arith, (rises-none _ _ (omega arith), (below_none _ _ _ (omega arith), tt))))
+invariant_of-self g c = record { small = c.args.self.now.small; within = omega arith; rising = rises-none _ _ (omega arith); valid = below_none _ _ _ (omega arith) }
 
 pub returns : goal.returns
 returns g c = record { room = refl; entries = held_none _ _ (omega arith); slots = refl }
