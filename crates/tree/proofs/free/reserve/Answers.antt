@@ -16,7 +16,7 @@ returns-in-Some g c =
     kept-freed c.args.nodes.now c.args.head c.in-Some.i c.index-nodes-i.result c.requires c.in-Some.is (read c.args.nodes.now c.in-Some.i _ lt c.index-nodes-i.is)
 
 pub returns-then-head-nodes : goal.returns-then-head-nodes
-returns-then-head-nodes g c = (refl, full c.args.nodes.now c.args.head c.requires c.in-default.is c.if-head-nodes.true)
+returns-then-head-nodes g c = (refl, full c.args.nodes.now c.args.head c.requires c.in_default.is c.if-head-nodes.true)
 
 pub returns : goal.returns
-returns g c = kept-unused c.args.nodes.now c.args.head c.requires c.in-default.is (omega (arith, c.requires.within, c.if-head-nodes.false))
+returns g c = kept-unused c.args.nodes.now c.args.head c.requires c.in_default.is (omega (arith, c.requires.within, c.if-head-nodes.false))

@@ -17,10 +17,10 @@ pub loop-level-preserved : goal.loop-level-preserved
 loop-level-preserved g c =
     let n = c.index-nodes-i.result in
     let at = read c.args.nodes.now c.in-Some.i n (sink_ok c.loop-level.invariant c.in-Some.is) c.index-nodes-i.is in
-    simp (c.lesser-of-best.ensures, c.either-at.ensures) (sink_down n c.loop-level.invariant c.in-Some.is at)
+    simp (c.lesser_of-best.ensures, c.either-at.ensures) (sink_down n c.loop-level.invariant c.in-Some.is at)
 
-pub returns-in-default : goal.returns-in-default
-returns-in-default g c = sink_none c.loop-level.invariant c.in-default.is
+pub returns-in_default : goal.returns-in_default
+returns-in_default g c = sink_none c.loop-level.invariant c.in_default.is
 
 pub returns : goal.returns
 returns g c = sink_end c.loop-level.invariant c.loop-level-test.false

@@ -14,14 +14,14 @@ loop-level-init g c =
     let s = seekable c.args.nodes.now h c.requires.wf in
     hunt_begin (tree_of c.args.nodes.now h) s.root_is s.is s.inside h.width.halved c.requires.key h.width.some
 
-pub least-from-requires : goal.least-from-requires
-least-from-requires g c = let b = aside c.loop-level.invariant in record { link = b.link-is; tree = b.is; bits = c.args.head.width.most }
+pub least_from-requires : goal.least_from-requires
+least_from-requires g c = let b = aside c.loop-level.invariant in record { link = b.link-is; tree = b.is; bits = c.args.head.width.most }
 
-pub returns-in-default : goal.returns-in-default
-returns-in-default g c = c.least-from.ensures ∙ hunt_none c.loop-level.invariant c.in-default.is ∙ next-first c.args.nodes.now c.args.head c.args.key c.requires.wf c.requires.key
+pub returns-in_default : goal.returns-in_default
+returns-in_default g c = c.least_from.ensures ∙ hunt_none c.loop-level.invariant c.in_default.is ∙ next-first c.args.nodes.now c.args.head c.args.key c.requires.wf c.requires.key
 
-pub side-of-requires : goal.side-of-requires
-side-of-requires g c = c.loop-level.invariant.from
+pub side_of-requires : goal.side_of-requires
+side_of-requires g c = c.loop-level.invariant.from
 
 pub loop-level-preserved : goal.loop-level-preserved
 loop-level-preserved g c =
@@ -29,9 +29,9 @@ loop-level-preserved g c =
     let at = read c.args.nodes.now c.in-Some.i n (hunt_ok c.loop-level.invariant c.in-Some.is) c.index-nodes-i.is in
     let past = hunt_node n c.loop-level.seen c.node-seen.result c.loop-level.invariant c.in-Some.is c.loop-level-test.true at c.node-seen.ensures in
     let from = c.loop-level.invariant.from in
-    elim c.match-side-of.branch [
-      | in-Left w ↦ simp (w.at-is, w.low-is, w.seen-is, w.right-seen.ensures) (past_left n past (let lt = went_left _ _ _ c.side-of.ensures w.in-Left.is in omega (arith, from, lt)))
-      | in-Right w ↦ simp (w.at-is, w.low-is, w.seen-is) (past_right n past (let ge = went_right _ _ _ c.side-of.ensures w.in-Right.is in omega (arith, from, ge)))
+    elim c.match-side_of.branch [
+      | in-Left w ↦ simp (w.at-is, w.low-is, w.seen-is, w.right-seen.ensures) (past_left n past (let lt = went_left _ _ _ c.side_of.ensures w.in-Left.is in omega (arith, from, lt)))
+      | in-Right w ↦ simp (w.at-is, w.low-is, w.seen-is) (past_right n past (let ge = went_right _ _ _ c.side_of.ensures w.in-Right.is in omega (arith, from, ge)))
     ]
 
 pub bounds-nodes-i : goal.bounds-nodes-i
@@ -41,10 +41,10 @@ pub offset_bounds-nodes-i : goal.offset_bounds-nodes-i
 offset_bounds-nodes-i g c = let lt : c.in-Some.i < length c.args.nodes.now = hunt_ok c.loop-level.invariant c.in-Some.is in omega arith
 
 pub overflow_add-low : goal.overflow_add-low
-overflow_add-low g c = let ge = went_right _ _ _ c.side-of.ensures c.in-Right.is in omega (arith, ge)
+overflow_add-low g c = let ge = went_right _ _ _ c.side_of.ensures c.in-Right.is in omega (arith, ge)
 
-pub least-from-requires-2 : goal.least-from-requires-2
-least-from-requires-2 g c = let b = aside c.loop-level.invariant in record { link = b.link-is; tree = b.is; bits = c.args.head.width.most }
+pub least_from-requires-2 : goal.least_from-requires-2
+least_from-requires-2 g c = let b = aside c.loop-level.invariant in record { link = b.link-is; tree = b.is; bits = c.args.head.width.most }
 
 pub returns : goal.returns
-returns g c = c.least-from-2.ensures ∙ hunt_flat c.loop-level.invariant c.loop-level-test.false ∙ next-first c.args.nodes.now c.args.head c.args.key c.requires.wf c.requires.key
+returns g c = c.least_from-2.ensures ∙ hunt_flat c.loop-level.invariant c.loop-level-test.false ∙ next-first c.args.nodes.now c.args.head c.args.key c.requires.wf c.requires.key

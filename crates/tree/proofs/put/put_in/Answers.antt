@@ -21,6 +21,6 @@ pub returns-in_err-spare : goal.returns-in_err-spare
 returns-in_err-spare g c =
     let ns = c.args.nodes.now in
     let h = c.args.head in
-    let p = err_from_is_err_and c.from-residual.result c.from-residual.ensures.1 in
+    let p = err_from_is_err_and c.from_residual.result c.from_residual.ensures.1 in
     let full = c.in_err-spare.ensures in
-    subst (λ (r : Result Head Refusal). PutDone ns ns h c.args.key c.args.record r) (sym p.1) (p.2 ∙ full.0, refl, find_none ns h c.requires.wf c.args.key c.requires.key (sym c.seek-spot.ensures.at ∙ c.in-default.is), full.1)
+    subst (λ (r : Result Head Refusal). PutDone ns ns h c.args.key c.args.record r) (sym p.1) (p.2 ∙ full.0, refl, find_none ns h c.requires.wf c.args.key c.requires.key (sym c.seek-spot.ensures.at ∙ c.in_default.is), full.1)

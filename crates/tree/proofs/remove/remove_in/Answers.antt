@@ -8,5 +8,5 @@ returns-in-None g c = (refl, find_none c.args.nodes.now c.args.head c.requires.w
 
 pub returns-in-Some : goal.returns-in-Some
 returns-in-Some g c =
-    let p = c.take-out.ensures in
+    let p = c.take_out.ensures in
     (p.wf, p.entries, p.width, found-holds c.args.nodes.now c.args.head c.requires.wf c.args.key c.in-Some.i c.requires.key (sym c.seek-spot.ensures.at ∙ c.in-Some.is))

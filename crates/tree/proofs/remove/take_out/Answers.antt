@@ -18,14 +18,14 @@ promote-requires g c = (
   (ranges c.args.nodes.now c.args.head c.requires.wf c.args.key c.args.i _ _ _ c.requires.at c.requires.under c.bottom-tip.ensures).0,
 )
 
-pub set-link-requires : goal.set-link-requires
-set-link-requires g c =
+pub set_link-requires : goal.set_link-requires
+set_link-requires g c =
     subst (λ (x : ℕ). Stands x c.bottom-tip.result.under) (sym c.promote.auto.nodes)
     (ranges c.args.nodes.now c.args.head c.requires.wf c.args.key c.args.i _ _ _ c.requires.at c.requires.under c.bottom-tip.ensures).1
 
 pub release-requires : goal.release-requires
 release-requires g c =
-    subst (λ (x : ℕ). c.bottom-tip.result.at < x) (sym (c.set-link.auto.nodes ∙ c.promote.auto.nodes))
+    subst (λ (x : ℕ). c.bottom-tip.result.at < x) (sym (c.set_link.auto.nodes ∙ c.promote.auto.nodes))
     (ranges c.args.nodes.now c.args.head c.requires.wf c.args.key c.args.i _ _ _ c.requires.at c.requires.under c.bottom-tip.ensures).0
 
 pub shrunk-requires : goal.shrunk-requires
@@ -35,7 +35,7 @@ pub returns : goal.returns
 returns g c =
     let h = c.args.head in
     let e = c.shrunk.ensures in
-    let a = taken c.args.nodes.now c.promote.new.nodes c.set-link.new.nodes c.release.new.nodes h (without_tip h c.bottom-tip.result) c.requires.wf c.args.key c.args.i _ _ _
-    c.requires.key c.requires.at c.requires.under c.bottom-tip.ensures c.promote.ensures c.set-link.ensures c.release.ensures
-    (c.release.auto.nodes ∙ c.set-link.auto.nodes ∙ c.promote.auto.nodes) refl refl refl refl refl in
+    let a = taken c.args.nodes.now c.promote.new.nodes c.set_link.new.nodes c.release.new.nodes h (without_tip h c.bottom-tip.result) c.requires.wf c.args.key c.args.i _ _ _
+    c.requires.key c.requires.at c.requires.under c.bottom-tip.ensures c.promote.ensures c.set_link.ensures c.release.ensures
+    (c.release.auto.nodes ∙ c.set_link.auto.nodes ∙ c.promote.auto.nodes) refl refl refl refl refl in
     record { wf = subst (WellFormed c.release.new.nodes) (sym e) a.wf; entries = ap (stored c.release.new.nodes) e ∙ a.entries_are; width = ap (λ (x : Head). x.width) e }

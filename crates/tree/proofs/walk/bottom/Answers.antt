@@ -3,7 +3,7 @@ use Rattle.std.proofs.Common.{◌<◌, length, arith}
 use Rattle.tree.proofs.Feet.{down_ok, down_end, down_last, down_left, down_right, down_begin}
 use Rattle.tree.proofs.walk.bottom.Goals as goal
 use Rattle.tree.proofs.Trees.{read}
-use Rattle.tree.proofs.walk.bottom.Goals.{in-Some, in-default+in-Some-right}
+use Rattle.tree.proofs.walk.bottom.Goals.{in-Some, in_default+in-Some-right}
 
 pub loop-level-init : goal.loop-level-init
 loop-level-init g c = down_begin _ c.requires.node c.requires.tree c.requires.levels
@@ -20,14 +20,14 @@ loop-level-preserved g c =
     let at = read c.args.nodes.now c.loop-level.tip.at n (down_ok c.loop-level.invariant) c.index-nodes-tip.is in
     elim c.match-node.branch [
       | in-Some w ↦ simp w.tip-is (down_left n c.loop-level.invariant at w.in-Some.is)
-      | in-default+in-Some-right w ↦ simp w.tip-is (down_right n c.loop-level.invariant at w.in-Some-right.is)
+      | in_default+in-Some-right w ↦ simp w.tip-is (down_right n c.loop-level.invariant at w.in-Some-right.is)
     ]
 
-pub returns-in-default-right : goal.returns-in-default-right
-returns-in-default-right g c =
+pub returns-in_default-right : goal.returns-in_default-right
+returns-in_default-right g c =
     let n = c.index-nodes-tip.result in
     let at = read c.args.nodes.now c.loop-level.tip.at n (down_ok c.loop-level.invariant) c.index-nodes-tip.is in
-    down_end n c.loop-level.invariant at c.in-default.is c.in-default-right.is
+    down_end n c.loop-level.invariant at c.in_default.is c.in_default-right.is
 
 pub returns : goal.returns
 returns g c = down_last c.loop-level.invariant c.loop-level-test.false

@@ -10,4 +10,4 @@ returns g c =
     let s = c.args.self.now in
     let u = sound g.row.LIMIT s.nodes.items s.head s.sound in
     let w = seekable s.nodes.items s.head u.wf in
-    record { digits = u.digits; short = λ way down. rw add-one (way_short s.nodes.items s.head.width.bits 0 _ s.head.root w.root-is w.inside w.is way down) }
+    record { digits = u.digits; short = λ way down. rw add-one (way_short s.nodes.items s.head.width.bits 0 _ s.head.root w.root_is w.inside w.is way down) }

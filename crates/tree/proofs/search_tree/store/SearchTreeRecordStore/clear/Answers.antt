@@ -10,4 +10,4 @@ pub invariant_of-self : goal.invariant_of-self
 invariant_of-self g c =
     let s = c.args.self.now in
     let u = sound g.row.LIMIT s.nodes.items s.head s.sound in
-    (∣ subst (Sound g.row.LIMIT s.nodes.items) (sym c.empty-self.ensures) (after_clear g.row.LIMIT s.nodes.items s.head.width u.wf.small u.digits) ∣₁, (subst (λ (k : Head). k.count ≡ length (stored s.nodes.items k)) (sym c.empty-self.ensures) refl, tt))
+    record { sound = ∣ subst (Sound g.row.LIMIT s.nodes.items) (sym c.empty-self.ensures) (after_clear g.row.LIMIT s.nodes.items s.head.width u.wf.small u.digits) ∣₁; counted = subst (λ (k : Head). k.count ≡ length (stored s.nodes.items k)) (sym c.empty-self.ensures) refl }

@@ -2,8 +2,8 @@
 use Rattle.tree.proofs.Lent.{lent, digits_of}
 use Rattle.tree.proofs.search_tree.store.SearchTreeRecordStore.find.Goals as goal
 
-pub find-in-requires : goal.find-in-requires
-find-in-requires g c =
+pub find_in-requires : goal.find_in-requires
+find_in-requires g c =
     let s = c.args.self.now in
     let u = lent g.row.LIMIT s.nodes s.head s.sound _ c.deref.ensures.value in
-    record { wf = u.wf; key = digits_of c.to-number.result u c.to-number.ensures.below }
+    record { wf = u.wf; key = digits_of c.to_number.result u c.to_number.ensures.below }
