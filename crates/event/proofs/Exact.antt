@@ -1,14 +1,14 @@
 -- An event is read exactly where the input begins with its form. Assumes nothing.
-use Rattle.std.proofs.Common.{◌≡◌, ℕ, suc, ◌+◌, ◌*◌, ◌^◌, ◌<◌, ◌≤◌, Bool, true, false, cond, ◌&&◌, eqb, ltb, leb, List, [], ◌∷◌, ◌++◌, length, get_or, take, drop, sym, refl, ap, ◌∙◌, subst, append_assoc, arith, lit≤, length-append, length-drop, ltb-false, ltb-true, le-ltb, lt-ltb}
+use Rattle.std.proofs.Common.{◌≡◌, ℕ, ◌+◌, ◌*◌, ◌^◌, ◌<◌, ◌≤◌, true, ◌&&◌, eqb, ltb, leb, List, [], ◌∷◌, ◌++◌, length, get_or, take, drop, sym, refl, ap, ◌∙◌, subst, append_assoc, arith, lit≤, length-append, length-drop, ltb-false, ltb-true, le-ltb, lt-ltb}
 use native.Mathlib.Nat.{pow-le-pow_right}
 use lib.Seq.{take-append_seam}
 use Rattle.std.specs.Int.Digits.{AllBelowBase}
 use Rattle.std.proofs.lemmas.List.{take-append-drop, length-take-le}
-use Rattle.std.proofs.lemmas.Bool.{cond_both, eqb-true, and_parts, and_from, leb-true, le-leb}
+use Rattle.std.proofs.lemmas.Bool.{cond_both, eqb-true, and_parts, leb-true, le-leb}
 use Rattle.key.specs.Figures.{in_bytes, number_at, is_hlr_id}
 use Rattle.key.proofs.Written.{length-figures, number_at-below, operand_stands, operand_reads}
-use Rattle.event.specs.Layout.{Event, provide_roaming_number, call_information, short_message_v2, short_message_v1, location_request, access, outgoing, registration, open_update, insert, end, reset, cancel, restart, form, size, InRange, ContactInRange, imsi_limit}
-use Rattle.event.specs.Decoding.{Reading, read, refused, found, contact_in_range, read_subscriber, read_contact, read_outgoing, read_groups, read_insert, read_end, read_reset, read_coded, decoded, Laid, ExactlyLaid, DecodingLaw}
+use Rattle.event.specs.Layout.{Event, provide_roaming_number, call_information, short_message_v2, short_message_v1, location_request, access, outgoing, registration, open_update, insert, end, reset, cancel, restart, form, InRange, ContactInRange, imsi_limit}
+use Rattle.event.specs.Decoding.{Reading, read, refused, found, contact_in_range, read_subscriber, read_contact, read_outgoing, read_insert, read_end, read_reset, read_coded, decoded, Laid, ExactlyLaid, DecodingLaw}
 use Rattle.event.proofs.Sizes.{size_is}
 
 -- what is read stands there

@@ -1,5 +1,5 @@
 -- What the front of bytes is read as, or why it is refused, and the law over it. Assumes nothing.
-use Rattle.std.specs.Prelude.{◌≡◌, ℕ, ◌+◌, ◌*◌, Bool, cond, ◌&&◌, ◌↔◌, List, ◌++◌, length, take, drop, Ok, Err, Result, ◌==◌, nat_le, nat_lt, slice_index}
+use Rattle.std.specs.Prelude.{◌≡◌, ℕ, ◌+◌, ◌*◌, Bool, cond, ◌&&◌, ◌↔◌, List, ◌++◌, length, take, drop, ◌==◌, nat_le, nat_lt, slice_index}
 use Rattle.std.specs.Int.Digits.{AllBelowBase}
 use Rattle.key.specs.Figures.{number_at, is_hlr_id}
 use Rattle.key.specs.declared.refusal.Refusal.{Refusal}

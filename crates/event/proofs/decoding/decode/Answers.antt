@@ -7,5 +7,5 @@ use Rattle.event.proofs.decoding.decode.Goals as goal
 pub returns : goal.returns
 returns c =
     let s = c.args.input.now in
-    let bytes = under_bytes s (λ i. let b = c.type-inv.input i in omega arith) in
-    record { answer = c.read-front.ensures; exactly_laid = subst (ExactlyLaid s) (sym c.read-front.ensures) (exactly_laid s bytes) }
+    let bytes = under_bytes s (λ i. let b = c.type_inv.input i in omega arith) in
+    record { answer = c.read_front.ensures; exactly_laid = subst (ExactlyLaid s) (sym c.read_front.ensures) (exactly_laid s bytes) }

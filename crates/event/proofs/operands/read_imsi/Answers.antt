@@ -5,7 +5,7 @@ use Rattle.event.proofs.operands.read_imsi.Goals as goal
 
 pub returns-in_err-imsi : goal.returns-in_err-imsi
 unfolding number_at
-returns-in_err-imsi c = let p = err_from_is_err_and c.from-residual.result c.from-residual.ensures.1 in rw (p.1, p.2) c.in_err-imsi.ensures
+returns-in_err-imsi c = let p = err_from_is_err_and c.from_residual.result c.from_residual.ensures.1 in rw (p.1, p.2) c.in_err-imsi.ensures
 
 pub returns : goal.returns
 unfolding number_at
