@@ -1,5 +1,5 @@
 -- A key dropped from a map with another one set. Assumes nothing.
-use Rattle.std.proofs.Common.{◌≡◌, ℕ, true, false, ◌⊎◌, List, sym, refl, ap, ◌∙◌, inl, inr}
+use Rattle.std.proofs.Common.{◌≡◌, ℕ, true, false, List, sym, ◌∙◌, inl, inr}
 use Rattle.std.proofs.lemmas.Bool.{cases_eq}
 use Rattle.store.specs.Model.{keys, rises, at, holds, with_entry, without}
 use Rattle.store.proofs.Maps.{rises_with, rises-without, at_with_same, at_with_other, at-without_same, at-without_other, none_from_holds}

@@ -1,9 +1,9 @@
 -- What a changed table lists. Assumes nothing.
-use Rattle.std.proofs.Common.{◌≡◌, ℕ, zero, suc, ◌+◌, ◌<◌, ◌≤◌, Bool, true, false, cond, not, ◌&&◌, ◌||◌, eqb, ltb, leb, ◌⊎◌, List, [], ◌∷◌, length, get_or, drop, set, Some, None, Option, sym, refl, ap, ◌∙◌, inl, inr, add-one, arith, eq-eqb, ne_eqb}
+use Rattle.std.proofs.Common.{◌≡◌, ℕ, zero, suc, ◌+◌, ◌<◌, ◌≤◌, Bool, true, false, cond, not, ◌&&◌, ◌||◌, eqb, ltb, leb, List, [], ◌∷◌, length, get_or, drop, set, Some, sym, refl, ap, ◌∙◌, inl, inr, add-one, arith, eq-eqb, ne_eqb}
 use Rattle.std.proofs.lemmas.Bool.Decides.{nat_tests}
-use Rattle.std.proofs.lemmas.Bool.{and_parts, and_from, cases_Bool, both_ways, or_cases, or_left, or_right, not-true, leb-true, le-leb, ltb-true, lt-ltb, cases_eq, not_from_false, eqb-true}
+use Rattle.std.proofs.lemmas.Bool.{and_parts, cases_Bool, both_ways, or_cases, not-true, leb-true, le-leb, ltb-true, lt-ltb, cases_eq, eqb-true}
 use Rattle.store.specs.Model.{keys, rises, at, holds, with_entry, without, any, only, first_from}
-use Rattle.store.proofs.Maps.{rises_with, with_with, with_again, holds_with_other, holds_with_same, length_with_new, any_with, only_with, holds-only, at_with_same, at_with_other}
+use Rattle.store.proofs.Maps.{rises_with, with_with, with_again, holds_with_other, holds_with_same, length_with_new, any_with, only_with, at_with_same, at_with_other}
 use Rattle.event.specs.declared.answer.Kind.{Kind}
 use Rattle.dialogue.specs.declared.row.Dialogue.{Dialogue}
 use Rattle.dialogue.specs.declared.row.Stage.TheVariants.{Gone}

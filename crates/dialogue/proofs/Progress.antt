@@ -1,7 +1,5 @@
 -- A message taken group by group. Assumes nothing.
 use Rattle.std.proofs.Common.{◌≡◌, ℕ, zero, suc, ◌+◌, ◌-◌, ◌*◌, ◌<◌, ◌≤◌, List, take, drop, Some, None, Option, sym, refl, ap, ◌∙◌, arith}
-use Rattle.event.specs.declared.answer.Ignored.{Ignored}
-use Rattle.dialogue.specs.declared.data.SubscriberData.{SubscriberData}
 use Rattle.dialogue.specs.declared.group.Group.{Group}
 use Rattle.dialogue.specs.Groups.{group_read}
 use Rattle.dialogue.specs.Messages.{Progress, one_more, groups_from}

@@ -1,5 +1,5 @@
 -- A dialogue that refuses what comes is as it was. Assumes nothing.
-use Rattle.std.proofs.Common.{◌≡◌, ℕ, true, false, ◌⊎◌, List, Some, None, Option, sym, refl, ap, ◌∙◌, inl, inr, arith}
+use Rattle.std.proofs.Common.{◌≡◌, ℕ, true, false, List, Some, None, Option, sym, refl, ap, ◌∙◌, inl, inr, arith}
 use Rattle.std.proofs.lemmas.Bool.{cases_eq}
 use Rattle.store.specs.Model.{keys, rises, at, with_entry}
 use Rattle.store.proofs.Maps.{rises_with, at_with_same, at_with_other}

@@ -1,5 +1,5 @@
 -- What the eleven bytes of a group mean, and what is unexpected. Assumes nothing.
-use Rattle.std.specs.Prelude.{ℕ, Bool, true, false, cond, ◌&&◌, List, [], ◌∷◌, length, drop, Some, None, Option, ◌==◌, nat_lt, slice_index}
+use Rattle.std.specs.Prelude.{ℕ, Bool, true, cond, ◌&&◌, List, [], ◌∷◌, length, drop, Some, None, Option, ◌==◌, nat_lt, slice_index}
 use Rattle.key.specs.Figures.{number_at}
 use Rattle.dialogue.specs.declared.data.Status.{Status}
 use Rattle.dialogue.specs.declared.data.Status.TheVariants.{Granted, Barred}

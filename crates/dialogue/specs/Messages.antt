@@ -1,5 +1,5 @@
 -- What a message of groups does to a draft. Assumes nothing.
-use Rattle.std.specs.Prelude.{ℕ, zero, suc, ◌+◌, ◌*◌, Bool, true, false, ◌||◌, List, length, take, drop, Some, None, Option}
+use Rattle.std.specs.Prelude.{ℕ, zero, suc, ◌+◌, ◌*◌, true, false, List, take, drop, Some, None, Option}
 use Rattle.event.specs.declared.answer.Ignored.{Ignored}
 use Rattle.dialogue.specs.declared.data.SubscriberData.{SubscriberData}
 use Rattle.dialogue.specs.declared.group.Group.{Group}

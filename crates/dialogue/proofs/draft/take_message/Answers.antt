@@ -1,5 +1,5 @@
 use Rattle.std.proofs.Common.{◌≡◌, ◌/◌, length, Some, None, sym, refl, ap, ◌∙◌, rules}
-use Rattle.dialogue.specs.Messages.{Progress, groups_from, message, message_ignored}
+use Rattle.dialogue.specs.Messages.{Progress, message, message_ignored}
 use Rattle.dialogue.proofs.Progress.{turn_takes, turn_rejects, turns_end}
 use Rattle.dialogue.proofs.draft.take_message.Goals as goal
 
@@ -17,7 +17,7 @@ returns-in_err-group c =
     let s = c.args.groups.now in
     let now : Progress = record { draft = c.loop-i.guard.draft.now; ignored = c.loop-i.ignored } in
     let none : message (length s / 11) s c.args.draft.now ≡ None = sym c.loop-i.invariant.2 ∙ turn_rejects (length s / 11) c.loop-i.i s now c.loop-i-test.true c.in_err-group.ensures in
-    record { answer = c.from-residual.ensures ∙ sym (ap message_ignored none); draft = rw none (search rules) }
+    record { answer = c.from_residual.ensures ∙ sym (ap message_ignored none); draft = rw none (search rules) }
 
 pub returns : goal.returns
 returns c =

@@ -4,7 +4,7 @@ use Rattle.dialogue.proofs.table.Table.clear.Goals as goal
 
 pub invariant_of-self : goal.invariant_of-self
 unfolding numbered
-invariant_of-self c = (refl, (refl, tt))
+invariant_of-self c = record { size = refl; sound = refl }
 
 pub returns : goal.returns
 unfolding listed

@@ -1,4 +1,4 @@
-use Rattle.std.proofs.Common.{◌≡◌, ◌<◌, eqb, length, refl, ap, ◌∙◌, arith, length-set, eq-eqb, ne_eqb}
+use Rattle.std.proofs.Common.{◌<◌, eqb, length, refl, ap, ◌∙◌, arith, length-set, eq-eqb, ne_eqb}
 use Rattle.dialogue.specs.Listed.{listed}
 use Rattle.dialogue.proofs.Listing.{num_of, num_in, num_unset, swept, listed-swept, turn_frees, turn_keeps}
 use Rattle.dialogue.proofs.table.Table.close_of.Goals as goal
@@ -11,7 +11,7 @@ loop-i-init c = (refl, refl)
 pub invariant_of-self : goal.invariant_of-self
 invariant_of-self c =
     let t = c.loop-i.self in
-    (simp length-set t.size, (num_in _ _ (num_unset t.rows t.last c.loop-i.i _ refl (num_of t.rows t.last t.sound)), tt))
+    record { size = simp length-set t.size; sound = num_in _ _ (num_unset t.rows t.last c.loop-i.i _ refl (num_of t.rows t.last t.sound)) }
 
 pub loop-i-preserved : goal.loop-i-preserved
 loop-i-preserved c =

@@ -9,5 +9,5 @@ returns-in-Some c =
     let at = c.in-Some.ensures in
     record {
       found = sym at.2;
-      on-imsi = low_imsi t.rows t.last c.in-Some.i (num_of t.rows t.last t.sound) (omega (arith, at.0, t.size)) (is_live c.args.number (get_or t.rows c.in-Some.i free_row) at.1).0;
+      on_imsi = low_imsi t.rows t.last c.in-Some.i (num_of t.rows t.last t.sound) (omega (arith, at.0, t.size)) (is_live c.args.number (get_or t.rows c.in-Some.i free_row) at.1).0;
     }

@@ -1,4 +1,4 @@
-use Rattle.std.proofs.Common.{◌≡◌, ◌+◌, ◌<◌, ◌≤◌, length, get_or, drop, sym, refl, ap, ◌∙◌, arith, le-ltb, lt-ltb}
+use Rattle.std.proofs.Common.{◌+◌, ◌<◌, ◌≤◌, length, get_or, drop, sym, ap, ◌∙◌, arith, le-ltb, lt-ltb}
 use Rattle.store.proofs.Maps.{length_with_new}
 use Rattle.dialogue.specs.Listed.{listed, free_row}
 use Rattle.dialogue.proofs.Listing.{listed_next, listed-end, listed_live, fewer, new-there, num_of}
@@ -7,14 +7,14 @@ use Rattle.dialogue.proofs.table.Table.free.Goals as goal
 pub returns-then-self : goal.returns-then-self
 returns-then-self c =
     let t = c.args.self.now in
-    let room = fewer t.rows t.last c.loop-i.i (num_of t.rows t.last t.sound) (omega (arith, t.size)) (sym c.is_gone.ensures ∙ c.if-is-gone.true) in
+    let room = fewer t.rows t.last c.loop-i.i (num_of t.rows t.last t.sound) (omega (arith, t.size)) (sym c.is_gone.ensures ∙ c.if-is_gone.true) in
     let less : length (listed t.rows) < 64 = omega (arith, room, t.size) in
     rw (lt-ltb (length (listed t.rows)) 64 less, c.if-self.true)
 
-pub returns-then-is-gone : goal.returns-then-is-gone
-returns-then-is-gone c =
+pub returns-then-is_gone : goal.returns-then-is_gone
+returns-then-is_gone c =
     let t = c.args.self.now in
-    let gone = sym c.is_gone.ensures ∙ c.if-is-gone.true in
+    let gone = sym c.is_gone.ensures ∙ c.if-is_gone.true in
     let room = fewer t.rows t.last c.loop-i.i (num_of t.rows t.last t.sound) (omega (arith, t.size)) gone in
     let less : length (listed t.rows) < 64 = omega (arith, room, t.size) in
     let left : t.last < 4294967295 = omega arith in
@@ -26,7 +26,7 @@ loop-i-preserved c =
     let rs = t.rows in
     let i = c.loop-i.i in
     let within : i < length rs = omega (arith, t.size) in
-    let live = sym c.is_gone.ensures ∙ c.if-is-gone.false in
+    let live = sym c.is_gone.ensures ∙ c.if-is_gone.false in
     let r = get_or rs i free_row in
     let more = length_with_new (listed (drop (i + 1) rs)) r.number r (new-there rs t.last i (num_of rs t.last t.sound) within live) in
     let next = ap length (listed_next rs i within ∙ listed_live r (drop (i + 1) rs) live) in

@@ -1,4 +1,4 @@
-use Rattle.std.proofs.Common.{◌≡◌, ◌<◌, length, get_or, sym, refl, ap, ◌∙◌, arith, length-set}
+use Rattle.std.proofs.Common.{◌<◌, length, get_or, sym, refl, ap, ◌∙◌, arith, length-set}
 use Rattle.dialogue.specs.Dialogues.{comes}
 use Rattle.dialogue.specs.Listed.{free_row, listed, kept_open, met_at, met_by}
 use Rattle.dialogue.proofs.Listing.{num_of, num_in, num_put, listed_put, listed-rises, is_live}
@@ -13,7 +13,7 @@ invariant_of-self c =
     let live = is_live c.args.number r at.1 in
     let is = c.meet.ensures.dialogue in
     let within : c.in-Some.i < length t.rows = omega (arith, at.0, t.size) in
-    (simp length-set t.size, (num_in _ _ (num_put c.meet.new.self t.rows t.last c.in-Some.i (num_of t.rows t.last t.sound) within live.0 (ap (λ d. d.number) is) (ap (λ d. d.imsi) is)), tt))
+    record { size = simp length-set t.size; sound = num_in _ _ (num_put c.meet.new.self t.rows t.last c.in-Some.i (num_of t.rows t.last t.sound) within live.0 (ap (λ d. d.number) is) (ap (λ d. d.imsi) is)) }
 
 pub returns-in-Some : goal.returns-in-Some
 returns-in-Some c =

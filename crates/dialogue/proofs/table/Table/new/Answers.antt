@@ -4,7 +4,7 @@ use Rattle.dialogue.proofs.table.Table.new.Goals as goal
 
 pub invariant_of-result : goal.invariant_of-result
 unfolding numbered
-invariant_of-result c = (refl, (refl, tt))
+invariant_of-result c = record { size = refl; sound = refl }
 
 pub returns : goal.returns
 unfolding listed

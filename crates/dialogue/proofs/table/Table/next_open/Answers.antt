@@ -1,4 +1,4 @@
-use Rattle.std.proofs.Common.{◌≡◌, ◌+◌, ◌-◌, ◌<◌, ◌≤◌, length, get_or, drop, sym, refl, ap, ◌∙◌, arith}
+use Rattle.std.proofs.Common.{◌≡◌, ◌+◌, ◌-◌, ◌<◌, length, get_or, drop, sym, ap, ◌∙◌, arith}
 use Rattle.store.specs.Model.{first_from, start}
 use Rattle.dialogue.specs.Listed.{listed, free_row, nearer}
 use Rattle.dialogue.proofs.Listing.{listed_next, listed-end, first_more}

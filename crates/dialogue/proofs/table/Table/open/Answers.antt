@@ -20,7 +20,7 @@ invariant_of-self c =
     let d : Dialogue = record { number = t.last + 1; imsi = c.number.result; kind = c.args.kind; stage = c.first_stage.result; draft = c.none.result } in
     let live : is_gone d.stage ≡ false = ap is_gone c.first_stage.ensures ∙ opens_live c.args.kind in
     let within : c.in_ok-i.i < length t.rows = omega (arith, free.0, t.size) in
-    (simp length-set t.size, (num_in _ _ (num_set t.rows t.last c.in_ok-i.i d within free.1 live (num_of t.rows t.last t.sound) (omega arith) c.number.ensures.fifteen), tt))
+    record { size = simp length-set t.size; sound = num_in _ _ (num_set t.rows t.last c.in_ok-i.i d within free.1 live (num_of t.rows t.last t.sound) (omega arith) c.number.ensures.fifteen) }
 
 pub returns : goal.returns
 returns c =
