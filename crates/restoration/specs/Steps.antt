@@ -1,5 +1,5 @@
 -- What each event is answered, and what the register is after it. Assumes nothing.
-use Rattle.std.specs.Prelude.{◌≡◌, ℕ, ◌+◌, ◌*◌, Bool, true, false, cond, not, ◌&&◌, List, [], length, Some, None, Ok, Err, Option, Result, ◌==◌, nat_le, nat_lt}
+use Rattle.std.specs.Prelude.{ℕ, ◌+◌, ◌*◌, Bool, true, false, cond, ◌&&◌, List, [], length, Some, None, Ok, Err, Option, Result, ◌==◌, nat_le, nat_lt}
 use Rattle.key.specs.declared.refusal.Refusal.{Refusal}
 use Rattle.key.specs.declared.refusal.Refusal.TheVariants.{OutOfRange, StoreFull, DialogueNotOpen}
 use Rattle.key.specs.Figures.{begins, is_hlr_id}
