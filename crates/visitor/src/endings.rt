@@ -14,9 +14,9 @@ use store::RecordStore;
 
 /// Takes the confirmation of the location from each record that the digits concern, and counts them.
 fn unlocate<S: RecordStore<Imsi, Record, LIMIT>>(store: &mut S, id: HlrId) -> u64
-    ensures room { room store.new ≡ room store.old }
-    ensures count { result ≡ tally (concerns id.digits id.value) (entries store.old) }
-    ensures records { entries store.new ≡ each (reset_one id.digits id.value) (entries store.old) }
+    ensures room { S.room store.new ≡ S.room store.old }
+    ensures count { result ≡ tally (concerns id.digits id.value) (S.entries store.old) }
+    ensures records { S.entries store.new ≡ each (reset_one id.digits id.value) (S.entries store.old) }
 {
     let mut count = 0;
     let mut last: Option<Imsi> = None;
@@ -38,8 +38,8 @@ fn unlocate<S: RecordStore<Imsi, Record, LIMIT>>(store: &mut S, id: HlrId) -> u6
 impl<S: RecordStore<Imsi, Record, LIMIT>> Vlr<S> {
     /// The home register ends a dialogue.
     pub fn end(&mut self, dialogue: u32, outcome: Outcome) -> Result<Answer, Refusal>
-        ensures answer { result ≡ end_answer (state entries room self.old) dialogue outcome }
-        ensures after { state entries room self.new ≡ end_after (state entries room self.old) dialogue outcome }
+        ensures answer { result ≡ end_answer (state S.entries S.room self.old) dialogue outcome }
+        ensures after { state S.entries S.room self.new ≡ end_after (state S.entries S.room self.old) dialogue outcome }
     {
         let Some(row) = self.table.find(dialogue) else {
             return Err(Refusal::DialogueNotOpen);
@@ -59,8 +59,8 @@ impl<S: RecordStore<Imsi, Record, LIMIT>> Vlr<S> {
 
     /// A home register lost data: subscribers whose IMSI begins with its digits have to be located again.
     pub fn reset(&mut self, id: HlrId) -> Answer
-        ensures answer { result ≡ reset_answer (state entries room self.old) id.digits id.value }
-        ensures after { state entries room self.new ≡ reset_after (state entries room self.old) id.digits id.value }
+        ensures answer { result ≡ reset_answer (state S.entries S.room self.old) id.digits id.value }
+        ensures after { state S.entries S.room self.new ≡ reset_after (state S.entries S.room self.old) id.digits id.value }
     {
         let count = unlocate(&mut self.store, id);
         plain(Reply::Done, Ignored::NONE, Subject::Records(count))

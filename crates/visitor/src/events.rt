@@ -19,8 +19,8 @@ use store::RecordStore;
 impl<S: RecordStore<Imsi, Record, LIMIT>> Vlr<S> {
     /// The home register asks for a roaming number.
     pub fn provide_roaming_number(&mut self, imsi: Imsi) -> Result<Answer, Refusal>
-        ensures answer { result ≡ planned_answer (state entries room self.old) imsi.number (provide (state entries room self.old) imsi.number) }
-        ensures after { state entries room self.new ≡ planned_after (state entries room self.old) imsi.number (provide (state entries room self.old) imsi.number) }
+        ensures answer { result ≡ planned_answer (state S.entries S.room self.old) imsi.number (provide (state S.entries S.room self.old) imsi.number) }
+        ensures after { state S.entries S.room self.new ≡ planned_after (state S.entries S.room self.old) imsi.number (provide (state S.entries S.room self.old) imsi.number) }
     {
         let old = self.store.find(imsi);
         let busy = self.table.has(imsi.number(), Kind::RestoreData);
@@ -30,43 +30,43 @@ impl<S: RecordStore<Imsi, Record, LIMIT>> Vlr<S> {
 
     /// How to reach the subscriber; `unknown` is the reply where that is not known.
     fn reach(&self, imsi: Imsi, unknown: Reply) -> Answer
-        ensures { result ≡ reached (state entries room self.now) imsi.number unknown }
+        ensures { result ≡ reached (state S.entries S.room self.now) imsi.number unknown }
     {
         plan_reach(unknown, self.store.find(imsi)).answer(imsi.number(), None)
     }
 
     /// The exchange asks how to reach the called subscriber.
     pub fn call_information(&self, imsi: Imsi) -> Answer
-        ensures { result ≡ reached (state entries room self.now) imsi.number SystemFailure }
+        ensures { result ≡ reached (state S.entries S.room self.now) imsi.number SystemFailure }
     {
         self.reach(imsi, Reply::SystemFailure)
     }
 
     /// The exchange asks how to deliver a short message, in version 2.
     pub fn short_message_v2(&self, imsi: Imsi) -> Answer
-        ensures { result ≡ reached (state entries room self.now) imsi.number UnidentifiedSubscriber }
+        ensures { result ≡ reached (state S.entries S.room self.now) imsi.number UnidentifiedSubscriber }
     {
         self.reach(imsi, Reply::UnidentifiedSubscriber)
     }
 
     /// The exchange asks how to deliver a short message, in version 1.
     pub fn short_message_v1(&self, imsi: Imsi) -> Answer
-        ensures { result ≡ reached (state entries room self.now) imsi.number SystemFailure }
+        ensures { result ≡ reached (state S.entries S.room self.now) imsi.number SystemFailure }
     {
         self.reach(imsi, Reply::SystemFailure)
     }
 
     /// Somebody asks where the subscriber is.
     pub fn location_request(&self, imsi: Imsi) -> Answer
-        ensures { result ≡ reached (state entries room self.now) imsi.number UnidentifiedSubscriber }
+        ensures { result ≡ reached (state S.entries S.room self.now) imsi.number UnidentifiedSubscriber }
     {
         self.reach(imsi, Reply::UnidentifiedSubscriber)
     }
 
     /// The handset answered a page or a search.
     pub fn access(&mut self, imsi: Imsi, auth: Auth, msc: u8, area: u16) -> Result<Answer, Refusal>
-        ensures answer { result ≡ planned_answer (state entries room self.old) imsi.number (accessed (state entries room self.old) imsi.number auth msc area) }
-        ensures after { state entries room self.new ≡ planned_after (state entries room self.old) imsi.number (accessed (state entries room self.old) imsi.number auth msc area) }
+        ensures answer { result ≡ planned_answer (state S.entries S.room self.old) imsi.number (accessed (state S.entries S.room self.old) imsi.number auth msc area) }
+        ensures after { state S.entries S.room self.new ≡ planned_after (state S.entries S.room self.old) imsi.number (accessed (state S.entries S.room self.old) imsi.number auth msc area) }
     {
         let old = self.store.find(imsi);
         let busy = self.table.has(imsi.number(), Kind::UpdateLocation);
@@ -75,8 +75,8 @@ impl<S: RecordStore<Imsi, Record, LIMIT>> Vlr<S> {
 
     /// The handset asks for a service of its own accord.
     pub fn outgoing(&mut self, imsi: Imsi, auth: Auth, msc: u8) -> Result<Answer, Refusal>
-        ensures answer { result ≡ planned_answer (state entries room self.old) imsi.number (went_out (state entries room self.old) imsi.number auth msc) }
-        ensures after { state entries room self.new ≡ planned_after (state entries room self.old) imsi.number (went_out (state entries room self.old) imsi.number auth msc) }
+        ensures answer { result ≡ planned_answer (state S.entries S.room self.old) imsi.number (went_out (state S.entries S.room self.old) imsi.number auth msc) }
+        ensures after { state S.entries S.room self.new ≡ planned_after (state S.entries S.room self.old) imsi.number (went_out (state S.entries S.room self.old) imsi.number auth msc) }
     {
         let old = self.store.find(imsi);
         let busy = self.table.has(imsi.number(), Kind::UpdateLocation);
@@ -91,8 +91,8 @@ impl<S: RecordStore<Imsi, Record, LIMIT>> Vlr<S> {
         msc: u8,
         area: u16,
     ) -> Result<Answer, Refusal>
-        ensures answer { result ≡ planned_answer (state entries room self.old) imsi.number (registered (state entries room self.old) imsi.number auth msc area) }
-        ensures after { state entries room self.new ≡ planned_after (state entries room self.old) imsi.number (registered (state entries room self.old) imsi.number auth msc area) }
+        ensures answer { result ≡ planned_answer (state S.entries S.room self.old) imsi.number (registered (state S.entries S.room self.old) imsi.number auth msc area) }
+        ensures after { state S.entries S.room self.new ≡ planned_after (state S.entries S.room self.old) imsi.number (registered (state S.entries S.room self.old) imsi.number auth msc area) }
     {
         let old = self.store.find(imsi);
         let busy = self.table.has(imsi.number(), Kind::UpdateLocation);
@@ -101,8 +101,8 @@ impl<S: RecordStore<Imsi, Record, LIMIT>> Vlr<S> {
 
     /// The home register opens a stand-alone update.
     pub fn open_update(&mut self, imsi: Imsi) -> Result<Answer, Refusal>
-        ensures answer { result ≡ planned_answer (state entries room self.old) imsi.number (updating (state entries room self.old) imsi.number) }
-        ensures after { state entries room self.new ≡ planned_after (state entries room self.old) imsi.number (updating (state entries room self.old) imsi.number) }
+        ensures answer { result ≡ planned_answer (state S.entries S.room self.old) imsi.number (updating (state S.entries S.room self.old) imsi.number) }
+        ensures after { state S.entries S.room self.new ≡ planned_after (state S.entries S.room self.old) imsi.number (updating (state S.entries S.room self.old) imsi.number) }
     {
         let old = self.store.find(imsi);
         let busy = self.table.has(imsi.number(), Kind::StandAlone);
@@ -111,8 +111,8 @@ impl<S: RecordStore<Imsi, Record, LIMIT>> Vlr<S> {
 
     /// The home register sends groups of subscriber data.
     pub fn insert(&mut self, dialogue: u32, groups: &[u8]) -> Result<Answer, Refusal>
-        ensures answer { result ≡ insert_answer (state entries room self.old) dialogue groups.now }
-        ensures after { state entries room self.new ≡ insert_after (state entries room self.old) dialogue groups.now }
+        ensures answer { result ≡ insert_answer (state S.entries S.room self.old) dialogue groups.now }
+        ensures after { state S.entries S.room self.new ≡ insert_after (state S.entries S.room self.old) dialogue groups.now }
     {
         let Some(row) = self.table.find(dialogue) else {
             return Err(Refusal::DialogueNotOpen);
@@ -130,8 +130,8 @@ impl<S: RecordStore<Imsi, Record, LIMIT>> Vlr<S> {
 
     /// The subscriber has registered elsewhere: the record and its dialogues go.
     pub fn cancel(&mut self, imsi: Imsi) -> Answer
-        ensures answer { result ≡ cancel_answer (state entries room self.old) imsi.number }
-        ensures after { state entries room self.new ≡ cancel_after (state entries room self.old) imsi.number }
+        ensures answer { result ≡ cancel_answer (state S.entries S.room self.old) imsi.number }
+        ensures after { state S.entries S.room self.new ≡ cancel_after (state S.entries S.room self.old) imsi.number }
     {
         let subject = Subject::Subscriber(imsi.number());
         if self.store.remove(imsi) {
@@ -145,7 +145,7 @@ impl<S: RecordStore<Imsi, Record, LIMIT>> Vlr<S> {
     /// This register restarts after a failure: records and dialogues go, and numbers go on.
     pub fn restart(&mut self) -> Answer
         ensures answer { result ≡ plain Done none_ignored Nobody }
-        ensures after { state entries room self.new ≡ restart_after (state entries room self.old) }
+        ensures after { state S.entries S.room self.new ≡ restart_after (state S.entries S.room self.old) }
     {
         self.store.clear();
         self.table.clear();

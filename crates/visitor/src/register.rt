@@ -24,7 +24,7 @@ pub struct Vlr<S> {
 impl<S: RecordStore<Imsi, Record, LIMIT>> Vlr<S> {
     /// A register that goes into service: its store is cleared, and numbers go on after the last one used.
     pub fn start(store: S, several: bool, last: u32) -> Vlr<S>
-        ensures { state entries room result ≡ started (room store) last several }
+        ensures { state S.entries S.room result ≡ started (S.room store) last several }
     {
         let mut store = store;
         store.clear();
@@ -37,7 +37,7 @@ impl<S: RecordStore<Imsi, Record, LIMIT>> Vlr<S> {
 
     /// Whether the record, if there is one, would be taken.
     fn fits(&self, imsi: Imsi, kept: Option<Record>) -> Result<(), Refusal>
-        ensures { FitsSays (state entries room self.now) imsi.number kept result }
+        ensures { FitsSays (state S.entries S.room self.now) imsi.number kept result }
     {
         match kept {
             Some(_) => room_for(&self.store, imsi),
@@ -48,7 +48,7 @@ impl<S: RecordStore<Imsi, Record, LIMIT>> Vlr<S> {
     /// Keeps the record, if there is one.
     pub(crate) fn keep(&mut self, imsi: Imsi, kept: Option<Record>) -> Result<(), Refusal>
         ensures table { self.new.table ≡ self.old.table }
-        ensures kept { KeepSays (state entries room self.old) imsi.number kept result (state entries room self.new) }
+        ensures kept { KeepSays (state S.entries S.room self.old) imsi.number kept result (state S.entries S.room self.new) }
     {
         match kept {
             Some(record) => self.store.put(imsi, record),
@@ -58,8 +58,8 @@ impl<S: RecordStore<Imsi, Record, LIMIT>> Vlr<S> {
 
     /// Carries a plan out, or turns it down and leaves all as it was.
     pub(crate) fn carry(&mut self, imsi: Imsi, plan: Plan) -> Result<Answer, Refusal>
-        ensures answer { result ≡ planned_answer (state entries room self.old) imsi.number plan }
-        ensures after { state entries room self.new ≡ planned_after (state entries room self.old) imsi.number plan }
+        ensures answer { result ≡ planned_answer (state S.entries S.room self.old) imsi.number plan }
+        ensures after { state S.entries S.room self.new ≡ planned_after (state S.entries S.room self.old) imsi.number plan }
     {
         match plan.opens {
             None => {
