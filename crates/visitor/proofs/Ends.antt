@@ -1,7 +1,7 @@
 -- There is room for the record that an end leaves. Assumes nothing.
-use Rattle.std.proofs.Common.{◌≡◌, ℕ, Bool, true, false, Some, None, Option, refl}
+use Rattle.std.proofs.Common.{◌≡◌, ℕ, Bool, true, Some, None, Option, refl}
 use Rattle.event.specs.declared.answer.Kind.{Kind}
-use Rattle.store.specs.Model.{at, takes}
+use Rattle.store.specs.Model.{takes}
 use Rattle.store.proofs.Maps.{takes-some}
 use Rattle.dialogue.specs.declared.data.SubscriberData.{SubscriberData}
 use Rattle.dialogue.specs.declared.row.Dialogue.{Dialogue}

@@ -1,7 +1,6 @@
 -- One turn of a reset. Assumes nothing.
-use Rattle.std.proofs.Common.{◌≡◌, ℕ, ◌+◌, ◌-◌, ◌<◌, ◌≤◌, Bool, true, false, cond, List, length, Some, None, Option, sym, refl, ap, ◌∙◌, arith}
-use Rattle.store.specs.Model.{keys, rises, at, takes, with_entry, first_from, up_to, tally}
-use Rattle.store.proofs.Maps.{takes-some}
+use Rattle.std.proofs.Common.{◌≡◌, ℕ, ◌+◌, ◌-◌, ◌<◌, true, false, cond, List, length, Some, None, sym, ap, ◌∙◌, arith}
+use Rattle.store.specs.Model.{keys, rises, at, with_entry, first_from, up_to, tally}
 use Rattle.store.proofs.Walk.{first-least, first-at, walk_less, up_to_short, up_to_longer}
 use Rattle.store.proofs.Each.{each_to, first-each_to, at-each_to, each_to_more, each_to_pass, tally_more, tally_short}
 use Rattle.restoration.specs.declared.record.Record.{Record}

@@ -18,7 +18,7 @@ loop-imsi-init g c =
 
 pub unreachable-requires : goal.unreachable-requires
 unreachable-requires g c =
-    never _ _ _ _ _ _ (g.S.RecordStore.lawful c.args.store.now).rising c.loop-imsi.invariant.1 c.in-Some.ensures (sym c.find.ensures ∙ c.in-default-find.is)
+    never _ _ _ _ _ _ (g.S.RecordStore.lawful c.args.store.now).rising c.loop-imsi.invariant.1 c.in-Some.ensures (sym c.find.ensures ∙ c.in_default-find.is)
 
 pub overflow_add-count : goal.overflow_add-count
 overflow_add-count g c =
@@ -39,7 +39,7 @@ pub loop-imsi-preserved-in-Ok : goal.loop-imsi-preserved-in-Ok
 loop-imsi-preserved-in-Ok g c =
     let up = (g.S.RecordStore.lawful c.args.store.now).rising in
     let id = c.args.id in
-    let concerned : begins c.in-Some.imsi.number id.digits id.value ≡ true = sym c.begins-with.ensures ∙ c.if-begins-with.true in (
+    let concerned : begins c.in-Some.imsi.number id.digits id.value ≡ true = sym c.begins_with.ensures ∙ c.if-begins_with.true in (
       c.put.ensures.room ∙ c.loop-imsi.invariant.0,
       c.in-Ok.ensures.entries.1 ∙ ap (with_entry (g.S.RecordStore.entries c.loop-imsi.store) c.in-Some.imsi.number) c.unlocated.ensures ∙ turn_sets _ _ _ _ _ _ up c.loop-imsi.invariant.1 c.in-Some.ensures c.in-Some-find.record (sym c.find.ensures ∙ c.in-Some-find.is) concerned,
       omega (arith, c.loop-imsi.invariant.2, rw concerned at (turn_counts _ _ _ _ _ _ up c.loop-imsi.invariant.1 c.in-Some.ensures)),
@@ -49,7 +49,7 @@ pub loop-imsi-preserved : goal.loop-imsi-preserved
 loop-imsi-preserved g c =
     let up = (g.S.RecordStore.lawful c.args.store.now).rising in
     let id = c.args.id in
-    let passed : begins c.in-Some.imsi.number id.digits id.value ≡ false = sym c.begins-with.ensures ∙ c.if-begins-with.false in
+    let passed : begins c.in-Some.imsi.number id.digits id.value ≡ false = sym c.begins_with.ensures ∙ c.if-begins_with.false in
     (c.loop-imsi.invariant.0, turn_passes _ _ _ _ _ _ up c.loop-imsi.invariant.1 c.in-Some.ensures passed, c.loop-imsi.invariant.2 ∙ sym (rw passed at (turn_counts _ _ _ _ _ _ up c.loop-imsi.invariant.1 c.in-Some.ensures)))
 
 pub returns : goal.returns
@@ -58,7 +58,7 @@ returns g c =
     let n = start (numbered (λ k. k.number) c.loop-imsi.last) in
     let id = c.args.id in
     let f = reset_one id.digits id.value in
-    let last = sym (first-each_to f n es) ∙ ap (λ zs. first_from zs n) (sym c.loop-imsi.invariant.1) ∙ sym c.next.ensures ∙ ap (numbered (λ k. k.number)) c.in-default.is in
+    let last = sym (first-each_to f n es) ∙ ap (λ zs. first_from zs n) (sym c.loop-imsi.invariant.1) ∙ sym c.next.ensures ∙ ap (numbered (λ k. k.number)) c.in_default.is in
     record {
       room = c.loop-imsi.invariant.0;
       count = c.loop-imsi.invariant.2 ∙ ap (tally (concerns id.digits id.value)) (up_to_all n es last);

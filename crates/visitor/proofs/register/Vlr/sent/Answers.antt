@@ -15,7 +15,7 @@ refused (Err x) e h = cc
 
 pub returns-in_err-answer : goal.returns-in_err-answer
 returns-in_err-answer g c =
-    let p = err_from_is_err_and c.from-residual.result c.from-residual.ensures.1 in
+    let p = err_from_is_err_and c.from_residual.result c.from_residual.ensures.1 in
     let s = state g.S.RecordStore.entries g.S.RecordStore.room c.args.self.now in
     let e = as_event c.args.event in
     let said = c.in_err-answer.ensures in
