@@ -7,18 +7,16 @@ mod show;
 mod site;
 mod words;
 
+use anyhow::anyhow;
 use journal::{Call, read_line};
 use register::Register;
 use site::Site;
-use std::alloc::Global;
 use std::io::{BufRead, BufReader};
+use std::process::ExitCode;
 
 /// The message that ends the program at a line, with what was expected there.
-fn not_of_the_format(heap: Global, line: u64, expected: &str) -> anyhow::Error {
-    match format!(in heap; "line {line}: {expected}") {
-        Ok(message) => message.into(),
-        Err(e) => e.into(),
-    }
+fn not_of_the_format(line: u64, expected: &str) -> anyhow::Error {
+    anyhow!("line {line}: {expected}")
 }
 
 /// Puts a new register into the place of the old one, whose invokes are withdrawn.
@@ -40,7 +38,7 @@ fn start(
 fn make(rt: &HostRuntime, site: &mut Option<Site>, line: u64, call: Call) -> anyhow::Result<()> {
     match site {
         Some(site) => site.make(rt, line, call),
-        None => Err(not_of_the_format(rt.alloc(), line, "expected a visitor register first")),
+        None => Err(not_of_the_format(line, "expected a visitor register first")),
     }
 }
 
@@ -67,7 +65,7 @@ fn play_line(
             start(rt, site, line, register)
         }
         Ok(Some(call)) => make(rt, site, line, call),
-        Err(fault) => Err(not_of_the_format(rt.alloc(), line, fault.words())),
+        Err(fault) => Err(not_of_the_format(line, fault.words())),
     }
 }
 
@@ -78,7 +76,7 @@ fn play_lines(rt: &HostRuntime, site: &mut Option<Site>) -> anyhow::Result<()> {
         line = line.saturating_add(1);
         match text {
             Ok(text) => play_line(rt, site, line, text.as_str())?,
-            Err(_) => return Err(not_of_the_format(rt.alloc(), line, "expected text")),
+            Err(_) => return Err(not_of_the_format(line, "expected text")),
         }
     }
     Ok(())
@@ -96,10 +94,13 @@ fn play(rt: &HostRuntime) -> anyhow::Result<()> {
     closed
 }
 
-fn main(rt: HostRuntime) -> anyhow::Result<()> {
-    let played = play(&rt);
-    if let Err(e) = &played {
-        eprintln!(rt; "{e}")?;
+fn main(rt: HostRuntime) -> ExitCode {
+    match play(&rt) {
+        Ok(()) => ExitCode::SUCCESS,
+        Err(e) => {
+            // where nobody reads the message, the status still tells
+            let _ = eprintln!(rt; "{e}");
+            ExitCode::FAILURE
+        }
     }
-    played
 }
