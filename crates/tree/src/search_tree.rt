@@ -9,7 +9,7 @@ use crate::node::Node;
 use crate::width::Width;
 use std::marker::PhantomData;
 
-pub mod store;
+pub mod record_store;
 
 /// Records by key, in nodes that were handed in.
 #[derive(Drop)]

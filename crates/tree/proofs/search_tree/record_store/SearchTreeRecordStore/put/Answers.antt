@@ -7,7 +7,7 @@ use Rattle.store.specs.Model.{PutSays}
 use Rattle.tree.specs.State.{stored}
 use Rattle.tree.proofs.Keeps.{after_put}
 use Rattle.tree.proofs.Lent.{lent, digits_of, whole, tally, unchanged, as_it_was, took, full}
-use Rattle.tree.proofs.search_tree.store.SearchTreeRecordStore.put.Goals as goal
+use Rattle.tree.proofs.search_tree.record_store.SearchTreeRecordStore.put.Goals as goal
 
 pub put_in-requires : goal.put_in-requires
 put_in-requires g c =

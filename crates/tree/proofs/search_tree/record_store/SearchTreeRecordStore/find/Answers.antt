@@ -1,6 +1,6 @@
 -- The answers of `find`. Assumes nothing.
 use Rattle.tree.proofs.Lent.{lent, digits_of}
-use Rattle.tree.proofs.search_tree.store.SearchTreeRecordStore.find.Goals as goal
+use Rattle.tree.proofs.search_tree.record_store.SearchTreeRecordStore.find.Goals as goal
 
 pub find_in-requires : goal.find_in-requires
 find_in-requires g c =

@@ -5,7 +5,7 @@ use Rattle.tree.proofs.Entries.{del-none}
 use Rattle.tree.proofs.Keeps.{after-del}
 use Rattle.tree.proofs.Lent.{lent, digits_of, whole, tally, as_it_was, dropped, stood}
 use Rattle.tree.proofs.Maps.{holds-none}
-use Rattle.tree.proofs.search_tree.store.SearchTreeRecordStore.remove.Goals as goal
+use Rattle.tree.proofs.search_tree.record_store.SearchTreeRecordStore.remove.Goals as goal
 
 pub remove_in-requires : goal.remove_in-requires
 remove_in-requires g c =

@@ -4,7 +4,7 @@ use Rattle.tree.specs.declared.head.Head.{Head}
 use Rattle.tree.specs.State.{Sound, stored}
 use Rattle.tree.proofs.Sealed.{sound}
 use Rattle.tree.proofs.Keeps.{after_clear}
-use Rattle.tree.proofs.search_tree.store.SearchTreeRecordStore.clear.Goals as goal
+use Rattle.tree.proofs.search_tree.record_store.SearchTreeRecordStore.clear.Goals as goal
 
 pub invariant_of-self : goal.invariant_of-self
 invariant_of-self g c =

@@ -6,8 +6,8 @@ use Rattle.tree.specs.State.{stored}
 use Rattle.tree.proofs.Lent.{lent, digits_of}
 use Rattle.tree.proofs.Maps.{first_below}
 use Rattle.tree.proofs.Sealed.{sound}
-use Rattle.tree.proofs.search_tree.store.SearchTreeRecordStore.next.Goals as goal
-use Rattle.tree.proofs.search_tree.store.SearchTreeRecordStore.next.Goals.{in-Some, in-None}
+use Rattle.tree.proofs.search_tree.record_store.SearchTreeRecordStore.next.Goals as goal
+use Rattle.tree.proofs.search_tree.record_store.SearchTreeRecordStore.next.Goals.{in-Some, in-None}
 
 -- a number below the limit is a key's
 made_again : {K : Type 0} (f : K → ℕ) (limit n : ℕ) (r : Option K) → n < limit → Made f limit n r → numbered f r ≡ Some n
