@@ -7,7 +7,7 @@ use crate::words::{answer_words, event_words, hexadecimal, refusal_words};
 use event::decode;
 use journal::Call;
 use key::Refusal;
-use std::alloc::{AllocFailed as Refused, Global};
+use std::alloc::{AllocFailed, Global};
 use visitor::{Handed, Invoke};
 
 /// The invokes stand beside the register that handed them out, and end with it.
@@ -57,7 +57,7 @@ fn keep(register: &mut Register, kept: &mut Vec<Invoke>, invoke: Invoke) {
     match kept.push(invoke) {
         Ok(()) => {}
         Err(refused) => {
-            let Refused { value } = refused;
+            let AllocFailed { value } = refused;
             let _ = register.withdraw(value);
         }
     }
