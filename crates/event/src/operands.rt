@@ -2,7 +2,7 @@
 ghost use Rattle.std.specs.Prelude.{◌≡◌};
 ghost use Rattle.event.specs.Operands.{imsi_read, contact_read};
 
-use key::{IMSI_LIMIT, Imsi, Refusal, number_at, read_key};
+use key::{Imsi, Refusal, number_at, read_key};
 
 /// What every contact of a handset begins with: who, whether authentication passed, through which exchange.
 #[derive(Clone, Copy)]
@@ -16,7 +16,7 @@ pub struct Contact {
 pub fn read_imsi(operands: &[u8]) -> Result<u64, Refusal>
     ensures { result ≡ imsi_read operands.now }
 {
-    let imsi = read_key::<Imsi, { IMSI_LIMIT }>(operands)?;
+    let imsi = read_key::<Imsi>(operands)?;
     Ok(imsi.number())
 }
 

@@ -5,13 +5,10 @@ use lib.Arith.{digits_div, digits_mod}
 use lib.Seq.{take-nil, take-append-le, take-append_seam, drop-append_seam}
 use Rattle.std.specs.Int.Digits.{number_from_digits, number_from_digits_after, AllBelowBase}
 use Rattle.std.proofs.lemmas.Int.Digits.{number_push, number_lt}
-use Rattle.std.proofs.lemmas.List.{take_all, drop_all, take-append-drop, length-take-le}
+use Rattle.std.proofs.lemmas.List.{append-nil, take_all, drop_all, take-append-drop, length-take-le}
 use Rattle.std.proofs.lemmas.Bool.{and_parts, and_from, cases_Bool, cases_eq, cases_lt, eqb-true}
 use Rattle.key.specs.Figures.{figures, number_at, alike, begins}
 
-append_nil : (xs : List ℕ) → xs ++ [] ≡ xs
-append_nil [] = refl
-append_nil (x ∷ xs) = ap (λ ys. x ∷ ys) (append_nil xs)
 
 pub length-figures : (b w n : ℕ) → length (figures b w n) ≡ w
 unfolding figures
@@ -29,7 +26,7 @@ number_figures b (suc w) n h l =
 -- what is read is written again
 figures-after : (b k a : ℕ) (ds : List ℕ) → AllBelowBase b ds → (w : ℕ) → w ≡ length ds + k → figures b w (number_from_digits_after b a ds) ≡ figures b k a ++ ds
 unfolding figures
-figures-after b k a [] ok w is = ap (λ n. figures b n a) (let e : w ≡ k = omega arith in e) ∙ sym (append_nil (figures b k a))
+figures-after b k a [] ok w is = ap (λ n. figures b n a) (let e : w ≡ k = omega arith in e) ∙ sym (append-nil (figures b k a))
 figures-after b k a (d ∷ ds) ok w is =
     let top : (a * b + d) / b ≡ a = digits_div a ok.0 in
     let low : (a * b + d) % b ≡ d = digits_mod a ok.0 in

@@ -1,9 +1,10 @@
 -- What a key is read as. Assumes nothing.
-use Rattle.std.specs.Prelude.{ℕ, cond, List, length, take, Some, None, Ok, Err, Option, Result, nat_lt}
+use Rattle.std.specs.Prelude.{◌≡◌, ℕ, ◌<◌, ◌≤◌, cond, List, length, take, Some, None, Ok, Err, Option, Result, nat_lt}
 use Rattle.std.specs.Int.Digits.{number_from_digits}
 use Rattle.key.specs.declared.refusal.Refusal.{Refusal}
 use Rattle.key.specs.declared.refusal.Refusal.TheVariants.{InputTooShort, OutOfRange}
 use Rattle.key.specs.declared.hlr_id.HlrId.{HlrId}
+use Rattle.key.specs.declared.imsi.Imsi.{Imsi}
 
 -- the key by its number
 abbrev pub by_number : {K : Type 0} → (K → ℕ) → Result K Refusal → Result ℕ Refusal
@@ -20,3 +21,8 @@ key_read octets limit input =
 abbrev pub by_digits : Option HlrId → Option (ℕ × ℕ)
 by_digits None = None
 by_digits (Some id) = Some (id.digits, id.value)
+
+-- the IMSI of a number, or a refusal where no IMSI has it
+abbrev pub ImsiOf : ℕ → Result Imsi Refusal → Type 0
+ImsiOf n (Ok imsi) = (imsi.number ≡ n) × (n < 1000000000000000)
+ImsiOf n (Err e) = (e ≡ OutOfRange) × (1000000000000000 ≤ n)

@@ -1,10 +1,11 @@
 //! The digits of an IMSI, and whether they begin with given ones.
 ghost use Rattle.std.specs.Prelude.{◌≡◌, ◌-◌, ◌/◌, ◌^◌, if◌then◌else◌, Some, None};
 ghost use Rattle.key.specs.Figures.{begins, is_hlr_id};
-ghost use Rattle.key.specs.Reads.{by_digits};
+ghost use Rattle.key.specs.Reads.{by_digits, ImsiOf};
 
 use crate::hlr_id::HlrId;
 use crate::imsi::Imsi;
+use crate::refusal::Refusal;
 use std::fmt;
 
 /// An IMSI has so many digits, leading zeros counted.
@@ -43,6 +44,17 @@ impl Imsi {
         ensures { result ≡ begins self.number id.digits id.value }
     {
         self.leading(id) == id.value
+    }
+}
+
+/// The IMSI of a number that came from outside.
+impl TryFrom<u64> for Imsi {
+    type Error = Refusal;
+
+    ghost try_from_gives = { ImsiOf };
+
+    fn try_from(number: u64) -> Result<Imsi, Refusal> {
+        Imsi::new(number).ok_or(Refusal::OutOfRange)
     }
 }
 

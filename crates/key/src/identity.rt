@@ -1,29 +1,25 @@
 //! What a key is, and the two kinds of key: IMSI and TMSI.
 ghost use Rattle.std.specs.Prelude.{◌≡◌, ℕ, ◌^◌, ◌<◌, ◌≤◌};
-ghost use Rattle.key.specs.Keys.{Made, ordering, same_imsi, same_tmsi};
+ghost use Rattle.key.specs.Keys.{Made, ordering};
 
 use crate::imsi::{IMSI_LIMIT, Imsi};
 use crate::tmsi::{TMSI_LIMIT, Tmsi};
 use std::cmp::Ordering;
 
-/// A key has a fixed width in bytes and a plain number below `LIMIT`, which orders it.
-pub trait Key<const LIMIT: u64>: Copy {
+/// A key has a fixed width in bytes and a plain number below its limit, which orders it.
+pub trait Key: Copy {
     /// The bytes that a key takes in an event.
     const WIDTH: usize;
 
+    /// What no key's number reaches.
+    const LIMIT: u64;
+
+    ghost WIDTH: { ℕ };
+
+    ghost LIMIT: { ℕ };
+
     /// The key's plain number.
     ghost number: { Self → ℕ };
-
-    /// The width, as clauses speak of it.
-    ghost octets: { ℕ };
-
-    /// The order is total: keys of one number are one key.
-    ghost same: { (a b : Self) → number a ≡ number b → a ≡ b };
-
-    /// The constant, with what generic code has to know of it.
-    fn octets() -> usize
-        ensures is { result ≡ octets }
-        ensures eight { result ≤ 8 };
 
     fn to_number(self) -> u64
         ensures is { result ≡ number self }
@@ -35,34 +31,34 @@ pub trait Key<const LIMIT: u64>: Copy {
 
     /// Which of two keys comes first: the one with the smaller number.
     fn order(self, other: Self) -> Ordering
-        ensures { result ≡ ordering (number self) (number other) };
-}
-
-/// Which of two numbers is the smaller.
-fn order_numbers(a: u64, b: u64) -> Ordering
-    ensures { result ≡ ordering a b }
-{
-    if a < b {
-        Ordering::Less
-    } else if a == b {
-        Ordering::Equal
-    } else {
-        Ordering::Greater
+        ensures { result ≡ ordering (number self) (number other) }
+    {
+        self.to_number().cmp(&other.to_number())
     }
+
+    /// A key's bytes make a number of 64 bits.
+    ghost narrow: { WIDTH ≤ 8 };
+
+    /// There is a number of 64 bits above each key's.
+    ghost bounded: { LIMIT < 2 ^ 64 };
+
+    /// The order is total: keys of one number are one key.
+    ghost same: { (a b : Self) → number a ≡ number b → a ≡ b };
 }
 
-impl Key<1000000000000000> for Imsi {
+impl Key for Imsi {
+    ghost use Rattle.std.proofs.Common.{rules};
+    ghost use Rattle.key.specs.Same.{same_imsi};
+
     const WIDTH: usize = 8;
 
+    const LIMIT: u64 = IMSI_LIMIT;
+
+    ghost WIDTH = { 8 };
+
+    ghost LIMIT = { 1000000000000000 };
+
     ghost number = { λ k. k.number };
-
-    ghost octets = { 8 };
-
-    ghost same = { same_imsi };
-
-    fn octets() -> usize {
-        Self::WIDTH
-    }
 
     fn to_number(self) -> u64 {
         self.number()
@@ -72,37 +68,39 @@ impl Key<1000000000000000> for Imsi {
         Imsi::new(n)
     }
 
-    fn order(self, other: Imsi) -> Ordering {
-        order_numbers(self.number(), other.number())
-    }
+    ghost narrow = { Prim.search rules };
+
+    ghost bounded = { Prim.search rules };
+
+    ghost same = { same_imsi };
 }
 
-impl Key<0x1_0000_0000> for Tmsi {
+impl Key for Tmsi {
+    ghost use Rattle.std.proofs.Common.{rules};
+    ghost use Rattle.key.specs.Same.{same_tmsi};
+
     const WIDTH: usize = 4;
 
+    const LIMIT: u64 = TMSI_LIMIT;
+
+    ghost WIDTH = { 4 };
+
+    ghost LIMIT = { 4294967296 };
+
     ghost number = { λ k. k.number };
-
-    ghost octets = { 4 };
-
-    ghost same = { same_tmsi };
-
-    fn octets() -> usize {
-        Self::WIDTH
-    }
 
     fn to_number(self) -> u64 {
         self.number as u64
     }
 
     fn from_number(n: u64) -> Option<Tmsi> {
-        if n < TMSI_LIMIT {
-            Some(Tmsi { number: n as u32 })
-        } else {
-            None
-        }
+        let number = u32::try_from(n).ok()?;
+        Some(Tmsi { number })
     }
 
-    fn order(self, other: Tmsi) -> Ordering {
-        order_numbers(self.number as u64, other.number as u64)
-    }
+    ghost narrow = { Prim.search rules };
+
+    ghost bounded = { Prim.search rules };
+
+    ghost same = { same_tmsi };
 }

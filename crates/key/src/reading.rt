@@ -39,15 +39,11 @@ pub fn number_at(bytes: &[u8], at: usize, width: usize) -> u64
 }
 
 /// The key at the front of the input, which may go on after it.
-pub fn read_key<K: Key<LIMIT>, const LIMIT: u64>(input: &[u8]) -> Result<K, Refusal>
-    ensures { by_number K.Key.number result ≡ key_read K.Key.octets LIMIT input.now }
+pub fn read_key<K: Key>(input: &[u8]) -> Result<K, Refusal>
+    ensures { by_number K.number result ≡ key_read K.WIDTH K.LIMIT input.now }
 {
-    let octets = K::octets();
-    if input.len() < octets {
+    if input.len() < K::WIDTH {
         return Err(Refusal::InputTooShort);
     }
-    match K::from_number(big_endian(&input[0..octets])) {
-        Some(k) => Ok(k),
-        None => Err(Refusal::OutOfRange),
-    }
+    K::from_number(big_endian(&input[0..K::WIDTH])).ok_or(Refusal::OutOfRange)
 }

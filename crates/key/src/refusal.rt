@@ -2,6 +2,9 @@
 ghost use Rattle.std.specs.Prelude.{◌≡◌};
 ghost use Rattle.key.specs.Refusals.{refusal_number};
 
+use std::error::Error;
+use std::fmt;
+
 /// The reasons in the order in which they are tried.
 #[derive(Clone, Copy, PartialEq, Eq, Debug)]
 pub enum Refusal {
@@ -27,11 +30,31 @@ pub enum Refusal {
     BackUpTooSmall = 10,
 }
 
-impl Refusal {
-    /// The number that a caller is given.
-    pub fn number(self) -> u8
-        ensures { result ≡ refusal_number self }
-    {
-        self as u8
+/// The number that a caller is given.
+impl From<Refusal> for u8 {
+    ghost from_gives = { λ refusal number. number ≡ refusal_number refusal };
+
+    fn from(refusal: Refusal) -> u8 {
+        refusal as u8
     }
 }
+
+impl fmt::Display for Refusal {
+    fn fmt<W: fmt::Write>(&self, f: &mut fmt::Formatter<W>) -> fmt::Result {
+        let words = match self {
+            Refusal::AreaTooShort => "the answer area has under 16 bytes",
+            Refusal::UnknownCode => "the input is empty or starts with no event's code",
+            Refusal::InputTooShort => "the input ends before the operands do",
+            Refusal::OutOfRange => "an operand is outside its range",
+            Refusal::StoreFull => "the store is full",
+            Refusal::TooManyDialogues => "64 dialogues are open",
+            Refusal::NumbersUsedUp => "the last dialogue number has been used",
+            Refusal::DialogueNotOpen => "the dialogue is not open, or not yet sent",
+            Refusal::AlreadyAdmitted => "the subscriber is admitted already",
+            Refusal::BackUpTooSmall => "the back-up has too little room",
+        };
+        f.write_str(words)
+    }
+}
+
+impl Error for Refusal {}

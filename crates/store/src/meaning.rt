@@ -5,15 +5,12 @@ ghost use Rattle.store.specs.Model.{at, holds, without, first_from, numbered, st
 use key::{Key, Refusal};
 
 /// A map from keys to records, with room for a fixed number of keys, at most 65,536.
-pub trait RecordStore<K: Key<LIMIT>, V: Copy, const LIMIT: u64> {
+pub trait RecordStore<K: Key, V: Copy> {
     /// The map: each key's number with its record, the numbers rising.
     ghost entries: { Self → List (ℕ × V) };
 
     /// How many keys the store has room for.
     ghost room: { Self → ℕ };
-
-    /// What holds of every store, for generic code to use.
-    ghost lawful: { (s : Self) → Lawful LIMIT (room s) (entries s) };
 
     /// How many keys there are.
     fn count(&self) -> usize
@@ -25,25 +22,28 @@ pub trait RecordStore<K: Key<LIMIT>, V: Copy, const LIMIT: u64> {
 
     /// The record at the key, if there is one.
     fn find(&self, k: K) -> Option<V>
-        ensures { result ≡ at (entries self.now) (K.Key.number k) };
+        ensures { result ≡ at (entries self.now) (K.number k) };
 
     /// The smallest key, or the smallest above a given one, which need not be in the map.
     fn next(&self, above: &Option<K>) -> Option<K>
-        ensures { numbered K.Key.number result ≡ first_from (entries self.now) (start (numbered K.Key.number above.now)) };
+        ensures { numbered K.number result ≡ first_from (entries self.now) (start (numbered K.number above.now)) };
 
     /// Sets the record at the key, or refuses where the key is new and the store is full.
     fn put(&mut self, k: K, v: V) -> Result<(), Refusal>
         ensures room { room self.new ≡ room self.old }
-        ensures entries { PutSays (room self.old) (entries self.old) (K.Key.number k) v result (entries self.new) };
+        ensures entries { PutSays (room self.old) (entries self.old) (K.number k) v result (entries self.new) };
 
     /// Drops the key, and tells whether it stood there.
     fn remove(&mut self, k: K) -> bool
         ensures room { room self.new ≡ room self.old }
-        ensures stood { result ≡ holds (entries self.old) (K.Key.number k) }
-        ensures entries { entries self.new ≡ without (entries self.old) (K.Key.number k) };
+        ensures stood { result ≡ holds (entries self.old) (K.number k) }
+        ensures entries { entries self.new ≡ without (entries self.old) (K.number k) };
 
     /// Empties the map.
     fn clear(&mut self)
         ensures room { room self.new ≡ room self.old }
         ensures entries { entries self.new ≡ [] };
+
+    /// What holds of every store, for generic code to use.
+    ghost lawful: { (s : Self) → Lawful K.LIMIT (room s) (entries s) };
 }

@@ -9,20 +9,12 @@ use key::{Key, Refusal};
 pub const MOST_ROOM: usize = 65_536;
 
 /// What a put at the key would answer, with nothing changed: a caller that has more to do than the put asks this first.
-pub fn room_for<K: Key<LIMIT>, V: Copy, S: RecordStore<K, V, LIMIT>, const LIMIT: u64>(
-    store: &S,
-    k: K,
-) -> Result<(), Refusal>
-    ensures { result ≡ room_answer (S.RecordStore.room store.now) (S.RecordStore.entries store.now) (K.Key.number k) }
+pub fn room_for<K: Key, V: Copy, S: RecordStore<K, V>>(store: &S, k: K) -> Result<(), Refusal>
+    ensures { result ≡ room_answer (S.room store.now) (S.entries store.now) (K.number k) }
 {
-    match store.find(k) {
-        Some(_) => Ok(()),
-        None => {
-            if store.count() < store.room() {
-                Ok(())
-            } else {
-                Err(Refusal::StoreFull)
-            }
-        }
+    if store.find(k).is_some() || store.count() < store.room() {
+        Ok(())
+    } else {
+        Err(Refusal::StoreFull)
     }
 }

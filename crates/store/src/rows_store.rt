@@ -12,9 +12,9 @@ use crate::rows::Rows;
 use key::{Key, Refusal};
 use std::marker::PhantomData;
 
-impl<K, V: Copy, const LIMIT: u64> Rows<K, V, LIMIT> {
+impl<K: Key, V: Copy> Rows<K, V> {
     /// An empty store in the memory handed in, of which it uses at most 65,536 rows.
-    pub fn over(rows: Vec<Row<V>>) -> Rows<K, V, LIMIT>
+    pub fn over(rows: Vec<Row<V>>) -> Rows<K, V>
         ensures room { vec_len result.rows ≡ capped (vec_len rows) }
         ensures entries { held result.rows.items result.len ≡ [] }
         ensures slots { result.rows.items ≡ take 65536 rows.items }
@@ -29,12 +29,10 @@ impl<K, V: Copy, const LIMIT: u64> Rows<K, V, LIMIT> {
     }
 }
 
-impl<K: Key<LIMIT>, V: Copy, const LIMIT: u64> RecordStore<K, V, LIMIT> for Rows<K, V, LIMIT> {
+impl<K: Key, V: Copy> RecordStore<K, V> for Rows<K, V> {
     ghost entries = { λ s. held s.rows.items s.len };
 
     ghost room = { λ s. vec_len s.rows };
-
-    ghost lawful = { rows_lawful };
 
     fn count(&self) -> usize {
         self.len
@@ -61,8 +59,8 @@ impl<K: Key<LIMIT>, V: Copy, const LIMIT: u64> RecordStore<K, V, LIMIT> for Rows
 
     fn put(&mut self, k: K, v: V) -> Result<(), Refusal>
         ensures room { vec_len self.new.rows ≡ vec_len self.old.rows }
-        ensures entries { PutSays (vec_len self.old.rows) (held self.old.rows.items self.old.len) (K.Key.number k) v result (held self.new.rows.items self.new.len) }
-        ensures slots { self.new.rows.items ≡ put_slots self.old.rows.items self.old.len (K.Key.number k) v }
+        ensures entries { PutSays (vec_len self.old.rows) (held self.old.rows.items self.old.len) (K.number k) v result (held self.new.rows.items self.new.len) }
+        ensures slots { self.new.rows.items ≡ put_slots self.old.rows.items self.old.len (K.number k) v }
     {
         let len = order::put_row(&mut self.rows, self.len, k.to_number(), v)?;
         self.len = len;
@@ -71,9 +69,9 @@ impl<K: Key<LIMIT>, V: Copy, const LIMIT: u64> RecordStore<K, V, LIMIT> for Rows
 
     fn remove(&mut self, k: K) -> bool
         ensures room { vec_len self.new.rows ≡ vec_len self.old.rows }
-        ensures stood { result ≡ holds (held self.old.rows.items self.old.len) (K.Key.number k) }
-        ensures entries { held self.new.rows.items self.new.len ≡ without (held self.old.rows.items self.old.len) (K.Key.number k) }
-        ensures slots { self.new.rows.items ≡ drop_slots self.old.rows.items self.old.len (K.Key.number k) }
+        ensures stood { result ≡ holds (held self.old.rows.items self.old.len) (K.number k) }
+        ensures entries { held self.new.rows.items self.new.len ≡ without (held self.old.rows.items self.old.len) (K.number k) }
+        ensures slots { self.new.rows.items ≡ drop_slots self.old.rows.items self.old.len (K.number k) }
     {
         match order::drop_row(&mut self.rows, self.len, k.to_number()) {
             Some(len) => {
@@ -91,4 +89,6 @@ impl<K: Key<LIMIT>, V: Copy, const LIMIT: u64> RecordStore<K, V, LIMIT> for Rows
     {
         self.len = 0;
     }
+
+    ghost lawful = { rows_lawful };
 }

@@ -2,11 +2,11 @@
 use crate::meaning::RecordStore;
 use crate::row::Row;
 use crate::rows::Rows;
-use key::{Refusal, TMSI_LIMIT, Tmsi};
+use key::{Refusal, Tmsi};
 use std::process::Abort;
 use std::test::Fail;
 
-type TmsiRows = Rows<Tmsi, u32, TMSI_LIMIT>;
+type TmsiRows = Rows<Tmsi, u32>;
 
 /// Checks the key numbers that lie in the four slots.
 fn check_slots(rt: &impl Abort, store: &TmsiRows, keys: [u64; 4]) {

@@ -17,4 +17,4 @@ returns-in-Some-first_row g c =
       | in-None w ↦ rw w.in-None.is (omega (arith, w.from-is))
     ] in
     let first : first_from (held s.rows.items s.len) c.match-above.from ≡ Some n = ap (λ zs. first_from (held zs s.len) c.match-above.from) (sym c.deref.ensures.value) ∙ sym c.in-Some-first_row.ensures in
-    made_again g.K.Key.number g.row.LIMIT n c.from_number.result (first_below g.row.LIMIT (held s.rows.items s.len) c.match-above.from n s.valid first) c.from_number.ensures ∙ sym first ∙ ap (first_from (held s.rows.items s.len)) from
+    made_again g.K.Key.number g.K.Key.LIMIT n c.from_number.result (first_below g.K.Key.LIMIT (held s.rows.items s.len) c.match-above.from n s.valid first) c.from_number.ensures ∙ sym first ∙ ap (first_from (held s.rows.items s.len)) from

@@ -16,7 +16,7 @@ invariant_of-self g c =
     let old : c.deref_mut.result.now ≡ s.rows.items = c.deref_mut.ensures.value in
     let same : ws ≡ s.rows.items = c.in_err-len.ensures.2 ∙ old in
     let is : (with_items s.rows ws).items ≡ s.rows.items = with_items_is s.rows ws (omega (arith, ap length same)) ∙ same in
-    record { small = s.small; within = s.within; rising = ap (λ zs. rises (keys (held zs s.len))) is ∙ s.rising; valid = ap (λ zs. all_below g.row.LIMIT (keys (held zs s.len))) is ∙ s.valid }
+    record { small = s.small; within = s.within; rising = ap (λ zs. rises (keys (held zs s.len))) is ∙ s.rising; valid = ap (λ zs. all_below g.K.Key.LIMIT (keys (held zs s.len))) is ∙ s.valid }
 
 pub invariant_of-self-2 : goal.invariant_of-self-2
 invariant_of-self-2 g c =
@@ -28,7 +28,7 @@ invariant_of-self-2 g c =
     let size : length ws ≡ s.rows.len = omega (arith, ap length old) in
     let is : (with_items s.rows ws).items ≡ ws = with_items_is s.rows ws size in
     let new : held (with_items s.rows ws).items n ≡ with_entry (held s.rows.items s.len) k c.args.v = ap (λ zs. held zs n) is ∙ c.in_ok-len.ensures.3 ∙ ap (λ zs. with_entry (held zs s.len) k c.args.v) old in
-    record { small = s.small; within = omega (arith, c.in_ok-len.ensures.2, ap length old); rising = ap (λ zs. rises (keys zs)) new ∙ rises_with (held s.rows.items s.len) k c.args.v s.rising; valid = ap (λ zs. all_below g.row.LIMIT (keys zs)) new ∙ below_with g.row.LIMIT (held s.rows.items s.len) k c.args.v s.valid c.to_number.ensures.below }
+    record { small = s.small; within = omega (arith, c.in_ok-len.ensures.2, ap length old); rising = ap (λ zs. rises (keys zs)) new ∙ rises_with (held s.rows.items s.len) k c.args.v s.rising; valid = ap (λ zs. all_below g.K.Key.LIMIT (keys zs)) new ∙ below_with g.K.Key.LIMIT (held s.rows.items s.len) k c.args.v s.valid c.to_number.ensures.below }
 
 pub returns-in_err-len : goal.returns-in_err-len
 returns-in_err-len g c =

@@ -16,7 +16,7 @@ invariant_of-self g c =
     let old : c.deref_mut.result.now ≡ s.rows.items = c.deref_mut.ensures.value in
     let size : length ws ≡ s.rows.len = omega (arith, ap length old) in
     let new : held (with_items s.rows ws).items n ≡ without (held s.rows.items s.len) k = ap (λ zs. held zs n) (with_items_is s.rows ws size) ∙ c.in-Some.ensures.2 ∙ ap (λ zs. without (held zs s.len) k) old in
-    record { small = s.small; within = omega (arith, c.in-Some.ensures.1, s.within); rising = ap (λ zs. rises (keys zs)) new ∙ rises-without (held s.rows.items s.len) k s.rising; valid = ap (λ zs. all_below g.row.LIMIT (keys zs)) new ∙ below-without g.row.LIMIT (held s.rows.items s.len) k s.valid }
+    record { small = s.small; within = omega (arith, c.in-Some.ensures.1, s.within); rising = ap (λ zs. rises (keys zs)) new ∙ rises-without (held s.rows.items s.len) k s.rising; valid = ap (λ zs. all_below g.K.Key.LIMIT (keys zs)) new ∙ below-without g.K.Key.LIMIT (held s.rows.items s.len) k s.valid }
 
 pub invariant_of-self-in-None : goal.invariant_of-self-in-None
 invariant_of-self-in-None g c =
@@ -25,7 +25,7 @@ invariant_of-self-in-None g c =
     let old : c.deref_mut.result.now ≡ s.rows.items = c.deref_mut.ensures.value in
     let same : ws ≡ s.rows.items = c.in-None.ensures.2 ∙ old in
     let is : (with_items s.rows ws).items ≡ s.rows.items = with_items_is s.rows ws (omega (arith, ap length same)) ∙ same in
-    record { small = s.small; within = s.within; rising = ap (λ zs. rises (keys (held zs s.len))) is ∙ s.rising; valid = ap (λ zs. all_below g.row.LIMIT (keys (held zs s.len))) is ∙ s.valid }
+    record { small = s.small; within = s.within; rising = ap (λ zs. rises (keys (held zs s.len))) is ∙ s.rising; valid = ap (λ zs. all_below g.K.Key.LIMIT (keys (held zs s.len))) is ∙ s.valid }
 
 pub returns-in-Some : goal.returns-in-Some
 returns-in-Some g c =
