@@ -9,7 +9,6 @@ use Rattle.std.proofs.lemmas.List.{append-nil, take_all, drop_all, take-append-d
 use Rattle.std.proofs.lemmas.Bool.{and_parts, and_from, cases_Bool, cases_eq, cases_lt, eqb-true}
 use Rattle.key.specs.Figures.{figures, number_at, alike, begins}
 
-
 pub length-figures : (b w n : ℕ) → length (figures b w n) ≡ w
 unfolding figures
 length-figures b zero n = refl

@@ -1,6 +1,7 @@
 //! What a key is, and the two kinds of key: IMSI and TMSI.
 ghost use Rattle.std.specs.Prelude.{◌≡◌, ℕ, ◌^◌, ◌<◌, ◌≤◌};
-ghost use Rattle.key.specs.Keys.{Made, ordering};
+ghost use Rattle.std.specs.Ordering.{nat_cmp};
+ghost use Rattle.key.specs.Keys.{Made};
 
 use crate::imsi::{IMSI_LIMIT, Imsi};
 use crate::tmsi::{TMSI_LIMIT, Tmsi};
@@ -31,7 +32,7 @@ pub trait Key: Copy {
 
     /// Which of two keys comes first: the one with the smaller number.
     fn order(self, other: Self) -> Ordering
-        ensures { result ≡ ordering (number self) (number other) }
+        ensures { result ≡ nat_cmp (number self) (number other) }
     {
         self.to_number().cmp(&other.to_number())
     }

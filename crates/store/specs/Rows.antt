@@ -1,9 +1,7 @@
 -- Rows in key order: the map that they stand for, and which slots a change writes. Assumes nothing.
-use Rattle.std.specs.Prelude.{◌≡◌, ℕ, ◌+◌, ◌-◌, ◌≤◌, true, false, cond, List, ◌∷◌, ◌++◌, map, length, take, drop, Some, None, Ok, Err, Option, Result, nat_lt, slice_set}
-use Rattle.key.specs.declared.refusal.Refusal.{Refusal}
-use Rattle.key.specs.declared.refusal.Refusal.TheVariants.{StoreFull}
+use Rattle.std.specs.Prelude.{◌≡◌, ℕ, ◌+◌, ◌-◌, ◌<◌, false, cond, List, ◌∷◌, ◌++◌, map, length, take, drop, Ok, Err, Result, nat_lt, slice_index, slice_set}
 use Rattle.store.specs.declared.row.Row.{Row}
-use Rattle.store.specs.Model.{holds, takes, tally, with_entry, without}
+use Rattle.store.specs.Model.{Placed, keys, holds, takes, tally}
 
 abbrev pub as_pair : {V : Type 0} → Row V → ℕ × V
 as_pair r = (r.key, r.value)
@@ -32,12 +30,7 @@ put_slots slots n k v = cond (takes (length slots) (held slots n) k) (cond (hold
 abbrev pub drop_slots : {V : Type 0} → List (Row V) → ℕ → ℕ → List (Row V)
 drop_slots slots n k = cond (holds (held slots n) k) (closed slots n (rank (held slots n) k)) slots
 
--- what putting a row in among the first n slots answers, and the slots after it
-abbrev pub RowPut : {V : Type 0} → List (Row V) → ℕ → ℕ → V → Result ℕ Refusal → List (Row V) → Type 0
-RowPut slots n k v (Ok m) after = (takes (length slots) (held slots n) k ≡ true) × (m ≡ cond (holds (held slots n) k) n (n + 1)) × (m ≤ length slots) × (held after m ≡ with_entry (held slots n) k v) × (after ≡ put_slots slots n k v)
-RowPut slots n k v (Err e) after = (e ≡ StoreFull) × (takes (length slots) (held slots n) k ≡ false) × (after ≡ slots)
-
--- what taking a row out answers, and the slots after it
-abbrev pub RowDropped : {V : Type 0} → List (Row V) → ℕ → ℕ → Option ℕ → List (Row V) → Type 0
-RowDropped slots n k (Some m) after = (holds (held slots n) k ≡ true) × (m + 1 ≡ n) × (held after m ≡ without (held slots n) k) × (after ≡ drop_slots slots n k)
-RowDropped slots n k None after = (holds (held slots n) k ≡ false) × (without (held slots n) k ≡ held slots n) × (after ≡ slots)
+-- where the row of k stands, or would go in
+abbrev pub PlaceSays : {V : Type 0} → List (ℕ × V) → ℕ → Result ℕ ℕ → Type 0
+PlaceSays es k (Ok i) = Placed es k i × (i < length es) × (slice_index (keys es) i ≡ k)
+PlaceSays es k (Err i) = Placed es k i × (holds es k ≡ false)

@@ -5,7 +5,6 @@ ghost use Rattle.store.specs.Rows.{held, put_slots, drop_slots};
 ghost use Rattle.store.specs.RowsLaws.{rows_lawful};
 
 use crate::meaning::RecordStore;
-use crate::order;
 use crate::room::MOST_ROOM;
 use crate::row::Row;
 use crate::rows::Rows;
@@ -43,17 +42,19 @@ impl<K: Key, V: Copy> RecordStore<K, V> for Rows<K, V> {
     }
 
     fn find(&self, k: K) -> Option<V> {
-        order::find_row(&self.rows, self.len, k.to_number())
+        let i = self.place(k.to_number()).ok()?;
+        Some(self.rows[i].value)
     }
 
     fn next(&self, above: &Option<K>) -> Option<K> {
-        let from = match *above {
-            Some(k) => k.to_number() + 1,
-            None => 0,
+        let from = above.map_or(0, |k| k.to_number() + 1);
+        let i = match self.place(from) {
+            Ok(i) | Err(i) => i,
         };
-        match order::first_row(&self.rows, self.len, from) {
-            Some(n) => K::from_number(n),
-            None => None,
+        if i < self.len {
+            K::from_number(self.rows[i].key)
+        } else {
+            None
         }
     }
 
@@ -62,8 +63,17 @@ impl<K: Key, V: Copy> RecordStore<K, V> for Rows<K, V> {
         ensures entries { PutSays (vec_len self.old.rows) (held self.old.rows.items self.old.len) (K.number k) v result (held self.new.rows.items self.new.len) }
         ensures slots { self.new.rows.items ≡ put_slots self.old.rows.items self.old.len (K.number k) v }
     {
-        let len = order::put_row(&mut self.rows, self.len, k.to_number(), v)?;
-        self.len = len;
+        let key = k.to_number();
+        let row = Row { key, value: v };
+        match self.place(key) {
+            Ok(i) => self.rows[i] = row,
+            Err(_) if self.len == self.rows.len() => return Err(Refusal::StoreFull),
+            Err(i) => {
+                self.rows.copy_within(i..self.len, i + 1);
+                self.rows[i] = row;
+                self.len += 1;
+            }
+        }
         Ok(())
     }
 
@@ -73,13 +83,12 @@ impl<K: Key, V: Copy> RecordStore<K, V> for Rows<K, V> {
         ensures entries { held self.new.rows.items self.new.len ≡ without (held self.old.rows.items self.old.len) (K.number k) }
         ensures slots { self.new.rows.items ≡ drop_slots self.old.rows.items self.old.len (K.number k) }
     {
-        match order::drop_row(&mut self.rows, self.len, k.to_number()) {
-            Some(len) => {
-                self.len = len;
-                true
-            }
-            None => false,
-        }
+        let Ok(i) = self.place(k.to_number()) else {
+            return false;
+        };
+        self.rows.copy_within(i + 1..self.len, i);
+        self.len -= 1;
+        true
     }
 
     fn clear(&mut self)

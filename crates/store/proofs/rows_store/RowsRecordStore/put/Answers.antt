@@ -1,69 +1,96 @@
 -- That the rows after a put keep their order and stand for the map with the key set. Assumes nothing.
-use Rattle.std.proofs.Common.{◌≡◌, false, length, sym, refl, ap, ◌∙◌, arith}
-use Rattle.std.specs.Vec.{with_items}
-use Rattle.std.proofs.lemmas.List.{with_items_is}
-use Rattle.std.proofs.lemmas.Result.{err_from_is_err_and}
-use Rattle.store.specs.Model.{keys, rises, all_below, with_entry, takes}
-use Rattle.store.specs.Rows.{held, put_slots}
+use Rattle.std.proofs.Common.{◌≡◌, ◌+◌, length, set, sym, refl, ap, ◌∙◌, arith}
+use Rattle.store.specs.declared.row.Row.{Row}
+use Rattle.store.specs.Model.{keys, rises, all_below}
+use Rattle.store.specs.Rows.{held}
 use Rattle.store.proofs.Maps.{rises_with, below_with}
+use Rattle.store.proofs.Places.{inside, taken_there, map_set, slots_set, within, taken_new, map_opened, slots_new, full}
 use Rattle.store.proofs.rows_store.RowsRecordStore.put.Goals as goal
 
--- a refusal leaves the memory as it was
+pub index_mut-requires : goal.index_mut-requires
+index_mut-requires g c =
+    let s = c.args.self.now in
+    omega (arith, inside s.rows.items s.len c.to_number-key.result c.in-Ok.i (omega arith) c.in-Ok.ensures)
+
 pub invariant_of-self : goal.invariant_of-self
 invariant_of-self g c =
     let s = c.args.self.now in
-    let ws = c.put_row.new.rows in
-    let old : c.deref_mut.result.now ≡ s.rows.items = c.deref_mut.ensures.value in
-    let same : ws ≡ s.rows.items = c.in_err-len.ensures.2 ∙ old in
-    let is : (with_items s.rows ws).items ≡ s.rows.items = with_items_is s.rows ws (omega (arith, ap length same)) ∙ same in
-    record { small = s.small; within = s.within; rising = ap (λ zs. rises (keys (held zs s.len))) is ∙ s.rising; valid = ap (λ zs. all_below g.K.Key.LIMIT (keys (held zs s.len))) is ∙ s.valid }
+    let k = c.to_number-key.result in
+    let es = held s.rows.items s.len in
+    let new = map_set s.rows.items s.len k c.in-Ok.i (omega arith) c.in-Ok.ensures c.args.v in
+    record { small = s.small; within = s.within; rising = ap (λ zs. rises (keys zs)) new ∙ rises_with es k c.args.v s.rising; valid = ap (λ zs. all_below g.K.Key.LIMIT (keys zs)) new ∙ below_with g.K.Key.LIMIT es k c.args.v s.valid c.to_number-key.ensures.below }
 
-pub invariant_of-self-2 : goal.invariant_of-self-2
-invariant_of-self-2 g c =
+pub returns-in-Err-clause-entries : goal.returns-in-Err-clause-entries
+returns-in-Err-clause-entries g c =
     let s = c.args.self.now in
-    let ws = c.put_row.new.rows in
-    let n = c.in_ok-len.len in
-    let k = c.to_number.result in
-    let old : c.deref_mut.result.now ≡ s.rows.items = c.deref_mut.ensures.value in
-    let size : length ws ≡ s.rows.len = omega (arith, ap length old) in
-    let is : (with_items s.rows ws).items ≡ ws = with_items_is s.rows ws size in
-    let new : held (with_items s.rows ws).items n ≡ with_entry (held s.rows.items s.len) k c.args.v = ap (λ zs. held zs n) is ∙ c.in_ok-len.ensures.3 ∙ ap (λ zs. with_entry (held zs s.len) k c.args.v) old in
-    record { small = s.small; within = omega (arith, c.in_ok-len.ensures.2, ap length old); rising = ap (λ zs. rises (keys zs)) new ∙ rises_with (held s.rows.items s.len) k c.args.v s.rising; valid = ap (λ zs. all_below g.K.Key.LIMIT (keys zs)) new ∙ below_with g.K.Key.LIMIT (held s.rows.items s.len) k c.args.v s.valid c.to_number.ensures.below }
-
-pub returns-in_err-len : goal.returns-in_err-len
-returns-in_err-len g c =
-    let s = c.args.self.now in
-    let ws = c.put_row.new.rows in
-    let old : c.deref_mut.result.now ≡ s.rows.items = c.deref_mut.ensures.value in
-    let same : ws ≡ s.rows.items = c.in_err-len.ensures.2 ∙ old in
-    let is : (with_items s.rows ws).items ≡ s.rows.items = with_items_is s.rows ws (omega (arith, ap length same)) ∙ same in
     let size : s.rows.len ≡ length s.rows.items = omega arith in
-    let full : takes (length s.rows.items) (held s.rows.items s.len) (g.K.Key.number c.args.k) ≡ false = ap (λ k. takes (length s.rows.items) (held s.rows.items s.len) k) (sym c.to_number.ensures.is) ∙ ap (λ zs. takes (length zs) (held zs s.len) c.to_number.result) (sym old) ∙ c.in_err-len.ensures.1 in
-    let p = err_from_is_err_and c.from_residual.result c.from_residual.ensures.1 in
-    record {
-      room = refl;
-      entries = rw (p.1, p.2) (c.in_err-len.ensures.0, ap (λ r. takes r (held s.rows.items s.len) (g.K.Key.number c.args.k)) size ∙ full, ap (λ zs. held zs s.len) is);
-      slots = rw full is;
-    }
+    (refl, rw (sym c.to_number-key.ensures.is, size) (full s.rows.items s.len c.to_number-key.result c.in-Err.field-0 (omega arith) c.in-Err.ensures), refl)
 
-pub returns : goal.returns
-returns g c =
+pub returns-in-Err-clause-slots : goal.returns-in-Err-clause-slots
+returns-in-Err-clause-slots g c =
     let s = c.args.self.now in
-    let ws = c.put_row.new.rows in
-    let n = c.in_ok-len.len in
-    let v = c.args.v in
-    let old : c.deref_mut.result.now ≡ s.rows.items = c.deref_mut.ensures.value in
-    let is : (with_items s.rows ws).items ≡ ws = with_items_is s.rows ws (omega (arith, ap length old)) in
+    rw (sym c.to_number-key.ensures.is, full s.rows.items s.len c.to_number-key.result c.in-Err.field-0 (omega arith) c.in-Err.ensures)
+
+pub overflow_add-i : goal.overflow_add-i
+overflow_add-i g c =
+    let s = c.args.self.now in
+    omega (arith, within s.rows.items s.len c.to_number-key.result c.in-Err.field-0 c.args.v (omega arith) s.rising c.in-Err.ensures, s.small)
+
+pub copy_within-requires-clause-start_le_end : goal.copy_within-requires-clause-start_le_end
+copy_within-requires-clause-start_le_end g c =
+    let s = c.args.self.now in
+    within s.rows.items s.len c.to_number-key.result c.in-Err.field-0 c.args.v (omega arith) s.rising c.in-Err.ensures
+
+pub copy_within-requires-clause-dest_in_bounds : goal.copy_within-requires-clause-dest_in_bounds
+copy_within-requires-clause-dest_in_bounds g c =
+    let s = c.args.self.now in
+    omega (arith, within s.rows.items s.len c.to_number-key.result c.in-Err.field-0 c.args.v (omega arith) s.rising c.in-Err.ensures)
+
+pub index_mut-requires-in-Err-2 : goal.index_mut-requires-in-Err-2
+index_mut-requires-in-Err-2 g c =
+    let s = c.args.self.now in
+    omega (arith, within s.rows.items s.len c.to_number-key.result c.in-Err.field-0 c.args.v (omega arith) s.rising c.in-Err.ensures, c.copy_within.ensures.len)
+
+pub invariant_of-self-in-Err-2 : goal.invariant_of-self-in-Err-2
+invariant_of-self-in-Err-2 g c =
+    let s = c.args.self.now in
+    let k = c.to_number-key.result in
+    let row : Row _ = record { key = k; value = c.args.v } in
+    let es = held s.rows.items s.len in
+    let n = s.len + 1 in
+    let new = ap (λ zs. held (set zs c.in-Err.field-0 row) n) c.copy_within.ensures.items ∙ map_opened s.rows.items s.len k c.in-Err.field-0 c.args.v (omega arith) s.rising c.in-Err.ensures in
+    record { small = omega (arith, s.small, c.copy_within.ensures.len); within = omega (arith, c.copy_within.ensures.len); rising = ap (λ zs. rises (keys zs)) new ∙ rises_with es k c.args.v s.rising; valid = ap (λ zs. all_below g.K.Key.LIMIT (keys zs)) new ∙ below_with g.K.Key.LIMIT es k c.args.v s.valid c.to_number-key.ensures.below }
+
+pub returns-in-Ok-clause-entries : goal.returns-in-Ok-clause-entries
+returns-in-Ok-clause-entries g c =
+    let s = c.args.self.now in
+    let k = c.to_number-key.result in
     let size : s.rows.len ≡ length s.rows.items = omega arith in
-    let num = c.to_number.ensures.is in
-    record {
-      room = refl;
-      entries = (
-        ap (λ r. takes r (held s.rows.items s.len) (g.K.Key.number c.args.k)) size
-            ∙ ap (λ k. takes (length s.rows.items) (held s.rows.items s.len) k) (sym num)
-            ∙ ap (λ zs. takes (length zs) (held zs s.len) c.to_number.result) (sym old)
-            ∙ c.in_ok-len.ensures.0,
-        ap (λ zs. held zs n) is ∙ c.in_ok-len.ensures.3 ∙ ap (λ zs. with_entry (held zs s.len) c.to_number.result v) old ∙ ap (λ k. with_entry (held s.rows.items s.len) k v) num,
-      );
-      slots = is ∙ c.in_ok-len.ensures.4 ∙ ap (λ zs. put_slots zs s.len c.to_number.result v) old ∙ ap (λ k. put_slots s.rows.items s.len k v) num;
-    }
+    rw (sym c.to_number-key.ensures.is, size) (taken_there s.rows.items s.len k c.in-Ok.i (omega arith) c.in-Ok.ensures, map_set s.rows.items s.len k c.in-Ok.i (omega arith) c.in-Ok.ensures c.args.v)
+
+pub returns-in-Ok-clause-slots : goal.returns-in-Ok-clause-slots
+returns-in-Ok-clause-slots g c =
+    let s = c.args.self.now in
+    let k = c.to_number-key.result in
+    rw (sym c.to_number-key.ensures.is) (slots_set s.rows.items s.len k c.in-Ok.i (omega arith) c.in-Ok.ensures c.args.v)
+
+pub returns-in-Err-2-clause-entries : goal.returns-in-Err-2-clause-entries
+returns-in-Err-2-clause-entries g c =
+    let s = c.args.self.now in
+    let k = c.to_number-key.result in
+    let i = c.in-Err.field-0 in
+    let row : Row _ = record { key = k; value = c.args.v } in
+    let n = s.len + 1 in
+    let size : s.rows.len ≡ length s.rows.items = omega arith in
+    rw (sym c.to_number-key.ensures.is, size) (
+      taken_new s.rows.items s.len k i c.args.v (omega arith) s.rising c.in-Err.ensures,
+      ap (λ zs. held (set zs i row) n) c.copy_within.ensures.items ∙ map_opened s.rows.items s.len k i c.args.v (omega arith) s.rising c.in-Err.ensures,
+    )
+
+pub returns-in-Err-2-clause-slots : goal.returns-in-Err-2-clause-slots
+returns-in-Err-2-clause-slots g c =
+    let s = c.args.self.now in
+    let k = c.to_number-key.result in
+    let i = c.in-Err.field-0 in
+    let row : Row _ = record { key = k; value = c.args.v } in
+    rw (sym c.to_number-key.ensures.is) (ap (λ zs. set zs i row) c.copy_within.ensures.items ∙ slots_new s.rows.items s.len k i c.args.v (omega arith) s.rising c.in-Err.ensures)

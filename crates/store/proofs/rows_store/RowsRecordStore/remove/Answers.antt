@@ -1,59 +1,57 @@
 -- That the rows after a drop keep their order and stand for the map without the key. Assumes nothing.
-use Rattle.std.proofs.Common.{◌≡◌, false, length, sym, refl, ap, ◌∙◌, arith}
-use Rattle.std.specs.Vec.{with_items}
-use Rattle.std.proofs.lemmas.List.{with_items_is}
-use Rattle.store.specs.Model.{keys, rises, all_below, without, holds}
-use Rattle.store.specs.Rows.{held, drop_slots}
-use Rattle.store.proofs.Maps.{rises-without, below-without}
+use Rattle.std.proofs.Common.{◌-◌, sym, ap, ◌∙◌, arith}
+use Rattle.store.specs.Model.{keys, rises, all_below}
+use Rattle.store.specs.Rows.{held}
+use Rattle.store.proofs.Maps.{rises-without, below-without, without-none}
+use Rattle.store.proofs.Places.{inside, known, map_cut, slots_cut}
 use Rattle.store.proofs.rows_store.RowsRecordStore.remove.Goals as goal
+
+pub returns-in_default-clause-entries : goal.returns-in_default-clause-entries
+returns-in_default-clause-entries g c =
+    let s = c.args.self.now in
+    rw (sym c.to_number.ensures.is) (sym (without-none (held s.rows.items s.len) c.to_number.result c.in_default.ensures.1))
+
+pub overflow_add-i : goal.overflow_add-i
+overflow_add-i g c =
+    let s = c.args.self.now in
+    omega (arith, inside s.rows.items s.len c.to_number.result c.in-Ok.i (omega arith) c.in-Ok.ensures, s.small)
+
+pub copy_within-requires-clause-start_le_end : goal.copy_within-requires-clause-start_le_end
+copy_within-requires-clause-start_le_end g c =
+    let s = c.args.self.now in
+    omega (arith, inside s.rows.items s.len c.to_number.result c.in-Ok.i (omega arith) c.in-Ok.ensures)
+
+pub copy_within-requires-clause-dest_in_bounds : goal.copy_within-requires-clause-dest_in_bounds
+copy_within-requires-clause-dest_in_bounds g c =
+    let s = c.args.self.now in
+    omega (arith, inside s.rows.items s.len c.to_number.result c.in-Ok.i (omega arith) c.in-Ok.ensures)
+
+pub overflow_sub-self : goal.overflow_sub-self
+overflow_sub-self g c =
+    let s = c.args.self.now in
+    omega (arith, inside s.rows.items s.len c.to_number.result c.in-Ok.i (omega arith) c.in-Ok.ensures)
 
 pub invariant_of-self : goal.invariant_of-self
 invariant_of-self g c =
     let s = c.args.self.now in
-    let ws = c.drop_row.new.rows in
-    let n = c.in-Some.len in
     let k = c.to_number.result in
-    let old : c.deref_mut.result.now ≡ s.rows.items = c.deref_mut.ensures.value in
-    let size : length ws ≡ s.rows.len = omega (arith, ap length old) in
-    let new : held (with_items s.rows ws).items n ≡ without (held s.rows.items s.len) k = ap (λ zs. held zs n) (with_items_is s.rows ws size) ∙ c.in-Some.ensures.2 ∙ ap (λ zs. without (held zs s.len) k) old in
-    record { small = s.small; within = omega (arith, c.in-Some.ensures.1, s.within); rising = ap (λ zs. rises (keys zs)) new ∙ rises-without (held s.rows.items s.len) k s.rising; valid = ap (λ zs. all_below g.K.Key.LIMIT (keys zs)) new ∙ below-without g.K.Key.LIMIT (held s.rows.items s.len) k s.valid }
+    let es = held s.rows.items s.len in
+    let n = s.len - 1 in
+    let new = ap (λ zs. held zs n) c.copy_within.ensures.items ∙ map_cut s.rows.items s.len k c.in-Ok.i (omega arith) c.in-Ok.ensures in
+    record { small = omega (arith, s.small, c.copy_within.ensures.len); within = omega (arith, c.copy_within.ensures.len, s.within); rising = ap (λ zs. rises (keys zs)) new ∙ rises-without es k s.rising; valid = ap (λ zs. all_below g.K.Key.LIMIT (keys zs)) new ∙ below-without g.K.Key.LIMIT es k s.valid }
 
-pub invariant_of-self-in-None : goal.invariant_of-self-in-None
-invariant_of-self-in-None g c =
+pub returns-clause-stood : goal.returns-clause-stood
+returns-clause-stood g c =
     let s = c.args.self.now in
-    let ws = c.drop_row.new.rows in
-    let old : c.deref_mut.result.now ≡ s.rows.items = c.deref_mut.ensures.value in
-    let same : ws ≡ s.rows.items = c.in-None.ensures.2 ∙ old in
-    let is : (with_items s.rows ws).items ≡ s.rows.items = with_items_is s.rows ws (omega (arith, ap length same)) ∙ same in
-    record { small = s.small; within = s.within; rising = ap (λ zs. rises (keys (held zs s.len))) is ∙ s.rising; valid = ap (λ zs. all_below g.K.Key.LIMIT (keys (held zs s.len))) is ∙ s.valid }
+    rw (sym c.to_number.ensures.is) (sym (known s.rows.items s.len c.to_number.result c.in-Ok.i (omega arith) c.in-Ok.ensures))
 
-pub returns-in-Some : goal.returns-in-Some
-returns-in-Some g c =
+pub returns-clause-entries : goal.returns-clause-entries
+returns-clause-entries g c =
     let s = c.args.self.now in
-    let ws = c.drop_row.new.rows in
-    let n = c.in-Some.len in
-    let old : c.deref_mut.result.now ≡ s.rows.items = c.deref_mut.ensures.value in
-    let is = with_items_is s.rows ws (omega (arith, ap length old)) in
-    let num = c.to_number.ensures.is in
-    record {
-      room = refl;
-      stood = sym (ap (λ k. holds (held s.rows.items s.len) k) (sym num) ∙ ap (λ zs. holds (held zs s.len) c.to_number.result) (sym old) ∙ c.in-Some.ensures.0);
-      entries = ap (λ zs. held zs n) is ∙ c.in-Some.ensures.2 ∙ ap (λ zs. without (held zs s.len) c.to_number.result) old ∙ ap (λ k. without (held s.rows.items s.len) k) num;
-      slots = is ∙ c.in-Some.ensures.3 ∙ ap (λ zs. drop_slots zs s.len c.to_number.result) old ∙ ap (λ k. drop_slots s.rows.items s.len k) num;
-    }
+    let n = s.len - 1 in
+    rw (sym c.to_number.ensures.is) (ap (λ zs. held zs n) c.copy_within.ensures.items ∙ map_cut s.rows.items s.len c.to_number.result c.in-Ok.i (omega arith) c.in-Ok.ensures)
 
-pub returns-in-None : goal.returns-in-None
-returns-in-None g c =
+pub returns-clause-slots : goal.returns-clause-slots
+returns-clause-slots g c =
     let s = c.args.self.now in
-    let ws = c.drop_row.new.rows in
-    let old : c.deref_mut.result.now ≡ s.rows.items = c.deref_mut.ensures.value in
-    let same : ws ≡ s.rows.items = c.in-None.ensures.2 ∙ old in
-    let is : (with_items s.rows ws).items ≡ s.rows.items = with_items_is s.rows ws (omega (arith, ap length same)) ∙ same in
-    let num = c.to_number.ensures.is in
-    let absent : holds (held s.rows.items s.len) (g.K.Key.number c.args.k) ≡ false = ap (λ k. holds (held s.rows.items s.len) k) (sym num) ∙ ap (λ zs. holds (held zs s.len) c.to_number.result) (sym old) ∙ c.in-None.ensures.0 in
-    record {
-      room = refl;
-      stood = sym absent;
-      entries = ap (λ zs. held zs s.len) is ∙ ap (λ zs. held zs s.len) (sym old) ∙ sym c.in-None.ensures.1 ∙ ap (λ zs. without (held zs s.len) c.to_number.result) old ∙ ap (λ k. without (held s.rows.items s.len) k) num;
-      slots = rw absent is;
-    }
+    rw (sym c.to_number.ensures.is) (c.copy_within.ensures.items ∙ slots_cut s.rows.items s.len c.to_number.result c.in-Ok.i (omega arith) c.in-Ok.ensures)
