@@ -1,5 +1,5 @@
 //! One drill for every record store: at each fill from empty to full, keys are taken, dropped and taken again.
-use crate::plain::PlainList;
+use crate::plain::PlainMap;
 use key::{Key, Refusal};
 use std::alloc::Global;
 use std::process::Abort;
@@ -30,11 +30,10 @@ impl Arrival {
 }
 
 /// The key at a place of the drill. The keys are `spread` apart, from 0 on.
-fn key_at<K: Key<LIMIT>, const LIMIT: u64>(place: u64, spread: u64) -> Result<K, Fail> {
-    match K::from_number(place.wrapping_mul(spread)) {
-        Some(k) => Ok(k),
-        None => Err(Fail::new("the drill's keys are spread too far")),
-    }
+fn key_at<K: Key>(place: u64, spread: u64) -> Result<K, Fail> {
+    K::from_number(place.wrapping_mul(spread)).ok_or_else(|| Fail::new(
+        "the drill's keys are spread too far",
+    ))
 }
 
 /// How far apart the drill's keys are when they reach from 0 to the last key of all, or close to it.
@@ -43,26 +42,20 @@ pub fn widest(limit: u64) -> u64 {
 }
 
 /// The number of a key that may be there.
-fn number_of<K: Key<LIMIT>, const LIMIT: u64>(k: Option<K>) -> Option<u64> {
-    match k {
-        Some(k) => Some(k.to_number()),
-        None => None,
-    }
+fn number_of<K: Key>(k: Option<K>) -> Option<u64> {
+    k.map(K::to_number)
 }
 
 /// 0 for what was done, or the refusal's number.
 pub fn number_answered(answer: Result<(), Refusal>) -> u8 {
-    match answer {
-        Ok(()) => 0,
-        Err(refusal) => refusal.number(),
-    }
+    answer.map_or_else(u8::from, |()| 0)
 }
 
 /// Compares all that the store answers without being changed.
-pub fn compare<K: Key<LIMIT>, S: RecordStore<K, u32, LIMIT>, const LIMIT: u64>(
+pub fn compare<K: Key, S: RecordStore<K, u32>>(
     rt: &impl Abort,
     store: &S,
-    plain: &PlainList,
+    plain: &PlainMap,
     spread: u64,
 ) -> Result<(), Fail> {
     let same = store.count() == plain.count() && store.room() == plain.room();
@@ -79,10 +72,10 @@ pub fn compare<K: Key<LIMIT>, S: RecordStore<K, u32, LIMIT>, const LIMIT: u64>(
 }
 
 /// Puts a record into both, and compares.
-pub fn put_both<K: Key<LIMIT>, S: RecordStore<K, u32, LIMIT>, const LIMIT: u64>(
+pub fn put_both<K: Key, S: RecordStore<K, u32>>(
     rt: &impl Abort,
     store: &mut S,
-    plain: &mut PlainList,
+    plain: &mut PlainMap,
     k: K,
     record: u32,
     spread: u64,
@@ -97,10 +90,10 @@ pub fn put_both<K: Key<LIMIT>, S: RecordStore<K, u32, LIMIT>, const LIMIT: u64>(
 }
 
 /// Drops a key from both, and compares.
-pub fn remove_both<K: Key<LIMIT>, S: RecordStore<K, u32, LIMIT>, const LIMIT: u64>(
+pub fn remove_both<K: Key, S: RecordStore<K, u32>>(
     rt: &impl Abort,
     store: &mut S,
-    plain: &mut PlainList,
+    plain: &mut PlainMap,
     k: K,
     spread: u64,
 ) -> Result<(), Fail> {
@@ -110,10 +103,10 @@ pub fn remove_both<K: Key<LIMIT>, S: RecordStore<K, u32, LIMIT>, const LIMIT: u6
 }
 
 /// Empties both, and takes as many keys as the fill says.
-pub fn fill_both<K: Key<LIMIT>, S: RecordStore<K, u32, LIMIT>, const LIMIT: u64>(
+pub fn fill_both<K: Key, S: RecordStore<K, u32>>(
     rt: &impl Abort,
     store: &mut S,
-    plain: &mut PlainList,
+    plain: &mut PlainMap,
     fill: usize,
     arrival: Arrival,
     spread: u64,
@@ -129,10 +122,10 @@ pub fn fill_both<K: Key<LIMIT>, S: RecordStore<K, u32, LIMIT>, const LIMIT: u64>
 }
 
 /// Each key set anew, dropped and taken again, whether it was there or not.
-fn stir<K: Key<LIMIT>, S: RecordStore<K, u32, LIMIT>, const LIMIT: u64>(
+fn stir<K: Key, S: RecordStore<K, u32>>(
     rt: &impl Abort,
     store: &mut S,
-    plain: &mut PlainList,
+    plain: &mut PlainMap,
     spread: u64,
 ) -> Result<(), Fail> {
     for place in 0..KEYS {
@@ -148,10 +141,10 @@ fn stir<K: Key<LIMIT>, S: RecordStore<K, u32, LIMIT>, const LIMIT: u64>(
 }
 
 /// Stirs the store at each fill from empty to full.
-fn fills_of<K: Key<LIMIT>, S: RecordStore<K, u32, LIMIT>, const LIMIT: u64>(
+fn fills_of<K: Key, S: RecordStore<K, u32>>(
     rt: &impl Abort,
     store: &mut S,
-    plain: &mut PlainList,
+    plain: &mut PlainMap,
     arrival: Arrival,
     spread: u64,
 ) -> Result<(), Fail> {
@@ -163,51 +156,51 @@ fn fills_of<K: Key<LIMIT>, S: RecordStore<K, u32, LIMIT>, const LIMIT: u64>(
 }
 
 /// The smallest and the largest key of all.
-fn both_ends<K: Key<LIMIT>, S: RecordStore<K, u32, LIMIT>, const LIMIT: u64>(
+fn both_ends<K: Key, S: RecordStore<K, u32>>(
     rt: &impl Abort,
     store: &mut S,
-    plain: &mut PlainList,
+    plain: &mut PlainMap,
 ) -> Result<(), Fail> {
     store.clear();
     plain.clear();
     let first: K = key_at(0, 1)?;
-    let last: K = key_at(LIMIT.wrapping_sub(1), 1)?;
+    let last: K = key_at(K::LIMIT.wrapping_sub(1), 1)?;
     put_both(rt, store, plain, last, 1, 1)?;
     put_both(rt, store, plain, first, 2, 1)?;
     let found = store.find(last) == plain.find(last.to_number());
     let next = number_of(store.next(&Some(first))) == plain.least_from(1);
-    let end = store.next(&Some(last)).is_none() && K::from_number(LIMIT).is_none();
+    let end = store.next(&Some(last)).is_none() && K::from_number(K::LIMIT).is_none();
     assert!(rt; found && next && end, "the last key of all");
     remove_both(rt, store, plain, last, 1)
 }
 
 /// Runs the store through each fill, with keys side by side and as far apart as they go, arriving in each order.
-pub fn every_fill<K: Key<LIMIT>, S: RecordStore<K, u32, LIMIT>, const LIMIT: u64>(
+pub fn every_fill<K: Key, S: RecordStore<K, u32>>(
     rt: &impl Abort,
     store: &mut S,
     heap: Global,
 ) -> Result<(), Fail> {
     let room = store.room();
-    let mut plain = PlainList::new(heap, room);
+    let mut plain = PlainMap::new(heap, room);
     for arrival in [Arrival::Rising, Arrival::Falling, Arrival::Scattered] {
         fills_of(rt, store, &mut plain, arrival, 1)?;
-        fills_of(rt, store, &mut plain, arrival, widest(LIMIT))?;
+        fills_of(rt, store, &mut plain, arrival, widest(K::LIMIT))?;
     }
     both_ends(rt, store, &mut plain)
 }
 
 /// The same for a store that is not wanted afterwards.
-pub fn every_fill_of<K: Key<LIMIT>, S: RecordStore<K, u32, LIMIT> + Drop, const LIMIT: u64>(
+pub fn every_fill_of<K: Key, S: RecordStore<K, u32> + Drop>(
     rt: &impl Abort,
     store: S,
     heap: Global,
 ) -> Result<(), Fail> {
     let mut store = store;
-    every_fill::<K, S, LIMIT>(rt, &mut store, heap)
+    every_fill(rt, &mut store, heap)
 }
 
 /// Puts each number below 65,536 at the key of that number, in rising order.
-fn fill_largest<K: Key<LIMIT>, S: RecordStore<K, u32, LIMIT>, const LIMIT: u64>(
+fn fill_largest<K: Key, S: RecordStore<K, u32>>(
     rt: &impl Abort,
     store: &mut S,
 ) -> Result<(), Fail> {
@@ -219,12 +212,12 @@ fn fill_largest<K: Key<LIMIT>, S: RecordStore<K, u32, LIMIT>, const LIMIT: u64>(
 }
 
 /// A store of the largest room, filled: the last place is taken, given back and taken again.
-pub fn largest_room<K: Key<LIMIT>, S: RecordStore<K, u32, LIMIT> + Drop, const LIMIT: u64>(
+pub fn largest_room<K: Key, S: RecordStore<K, u32> + Drop>(
     rt: &impl Abort,
     store: S,
 ) -> Result<(), Fail> {
     let mut store = store;
-    fill_largest::<K, S, LIMIT>(rt, &mut store)?;
+    fill_largest(rt, &mut store)?;
     let first: K = key_at(0, 1)?;
     let last: K = key_at(65_535, 1)?;
     let more: K = key_at(65_536, 1)?;

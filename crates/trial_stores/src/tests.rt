@@ -1,21 +1,21 @@
 //! Rows, the tree, and stores with a back-up made of either, against the plain list.
 use crate::backing::every_fill_backed;
 use crate::drill::{every_fill_of, largest_room};
-use key::{IMSI_LIMIT, Imsi, Key, TMSI_LIMIT, Tmsi};
+use key::{Imsi, Tmsi};
 use std::alloc::{AllocError, Global};
 use std::test::Fail;
 use store::{Backed, MOST_ROOM, RecordStore, Row, Rows};
 use tree::{Node, SearchTree};
 
-type ImsiRows = Rows<Imsi, u32, IMSI_LIMIT>;
+type ImsiRows = Rows<Imsi, u32>;
 
-type ImsiTree = SearchTree<Imsi, u32, IMSI_LIMIT>;
+type ImsiTree = SearchTree<Imsi, u32>;
 
 fn imsi_rows(heap: Global, n: usize) -> Result<ImsiRows, AllocError> {
     Ok(Rows::over(vec![in heap; Row::spare(9u32); n]?))
 }
 
-fn tmsi_rows(heap: Global, n: usize) -> Result<Rows<Tmsi, u32, TMSI_LIMIT>, AllocError> {
+fn tmsi_rows(heap: Global, n: usize) -> Result<Rows<Tmsi, u32>, AllocError> {
     Ok(Rows::over(vec![in heap; Row::spare(9u32); n]?))
 }
 
@@ -23,7 +23,7 @@ fn imsi_tree(heap: Global, n: usize) -> Result<ImsiTree, AllocError> {
     Ok(SearchTree::over(vec![in heap; Node::spare(9u32); n]?))
 }
 
-fn tmsi_tree(heap: Global, n: usize) -> Result<SearchTree<Tmsi, u32, TMSI_LIMIT>, AllocError> {
+fn tmsi_tree(heap: Global, n: usize) -> Result<SearchTree<Tmsi, u32>, AllocError> {
     Ok(SearchTree::over(vec![in heap; Node::spare(9u32); n]?))
 }
 
@@ -31,10 +31,10 @@ fn rows_backed_by_tree(
     heap: Global,
     live: usize,
     back: usize,
-) -> Result<Backed<ImsiRows, ImsiTree>, AllocError> {
+) -> Result<Backed<Imsi, u32, ImsiRows, ImsiTree>, AllocError> {
     let live = imsi_rows(heap, live)?;
     let back = imsi_tree(heap, back)?;
-    Ok(Backed::over::<Imsi, u32, IMSI_LIMIT>(live, back))
+    Ok(Backed::over(live, back))
 }
 
 #[test]
