@@ -1,65 +1,57 @@
-//! Saving and reloading at each fill, beside two plain lists.
-use crate::drill::{Arrival, compare, every_fill, fill_both, number_answered, widest};
+//! Saving and reloading at each fill, beside two maps.
+use crate::drill::{Arrival, Drill, compare, widest};
 use crate::plain::PlainMap;
-use key::Key;
+use key::{Key, Refusal};
 use std::alloc::Global;
 use std::process::Abort;
 use std::test::Fail;
 use store::{Backed, RecordStore};
 
-/// Saves, and compares live store and back-up with the lists for them.
-fn save_both<K: Key, L: RecordStore<K, u32>, B: RecordStore<K, u32>>(
-    rt: &impl Abort,
-    backed: &mut Backed<K, u32, L, B>,
-    plain: &PlainMap,
-    saved: &mut PlainMap,
-    spread: u64,
-) -> Result<(), Fail> {
-    let expected = if plain.count() <= saved.room() {
-        saved.copy_from(plain)?;
-        0
-    } else {
-        10
-    };
-    assert_eq!(rt; number_answered(backed.save()), expected, "save");
-    compare(rt, backed, plain, spread)?;
-    compare(rt, backed.back(), saved, spread)
-}
-
-/// At one fill: saves, empties and fills half, and reloads; every step is compared on both sides.
-fn save_at<K: Key, L: RecordStore<K, u32>, B: RecordStore<K, u32>>(
-    rt: &impl Abort,
-    backed: &mut Backed<K, u32, L, B>,
-    plain: &mut PlainMap,
-    saved: &mut PlainMap,
-    fill: usize,
-    spread: u64,
-) -> Result<(), Fail> {
-    fill_both(rt, backed, plain, fill, Arrival::Scattered, spread)?;
-    compare(rt, backed.back(), saved, spread)?;
-    save_both(rt, backed, plain, saved, spread)?;
-    fill_both(rt, backed, plain, fill / 2, Arrival::Falling, spread)?;
-    compare(rt, backed.back(), saved, spread)?;
-    backed.reload();
-    plain.copy_from(saved)?;
-    compare(rt, backed, plain, spread)?;
-    compare(rt, backed.back(), saved, spread)
-}
-
-/// Saves and reloads at each fill from empty to full.
-fn save_and_reload<K: Key, L: RecordStore<K, u32>, B: RecordStore<K, u32>>(
-    rt: &impl Abort,
-    backed: &mut Backed<K, u32, L, B>,
-    heap: Global,
-    spread: u64,
-) -> Result<(), Fail> {
-    let room = backed.room();
-    let mut plain = PlainMap::new(heap, room);
-    let mut saved = PlainMap::new(heap, backed.back().room());
-    for fill in 0..=room {
-        save_at(rt, backed, &mut plain, &mut saved, fill, spread)?;
+impl<R: Abort, K: Key, L: RecordStore<K, u32>, B: RecordStore<K, u32>> Drill<
+    '_,
+    R,
+    K,
+    Backed<K, u32, L, B>,
+> {
+    /// Compares the live store and the back-up with the maps for them.
+    fn compare_both(&self, saved: &PlainMap) -> Result<(), Fail> {
+        self.compare()?;
+        compare(self.rt, self.store.back(), saved, self.spread)
     }
-    Ok(())
+
+    /// Saves, where the back-up has room for all.
+    fn save(&mut self, saved: &mut PlainMap) -> Result<(), Fail> {
+        let expected = if self.plain.count() <= saved.room() {
+            saved.copy_from(&self.plain)?;
+            Ok(())
+        } else {
+            Err(Refusal::BackUpTooSmall)
+        };
+        assert_eq!(self.rt; self.store.save(), expected, "save");
+        self.compare_both(saved)
+    }
+
+    /// At one fill: saves, empties and fills half, and reloads; every step is compared on both sides.
+    fn save_at(&mut self, saved: &mut PlainMap, fill: usize) -> Result<(), Fail> {
+        self.fill(fill, Arrival::Scattered)?;
+        self.compare_both(saved)?;
+        self.save(saved)?;
+        self.fill(fill / 2, Arrival::Falling)?;
+        self.compare_both(saved)?;
+        self.store.reload();
+        self.plain.copy_from(saved)?;
+        self.compare_both(saved)
+    }
+
+    /// Saves and reloads at each fill from empty to full.
+    fn save_and_reload(&mut self, heap: Global) -> Result<(), Fail> {
+        self.spread = widest::<K>();
+        let mut saved = PlainMap::new(heap, self.store.back().room());
+        for fill in 0..=self.plain.room() {
+            self.save_at(&mut saved, fill)?;
+        }
+        Ok(())
+    }
 }
 
 /// Puts a record at the first key, if there is room.
@@ -73,20 +65,19 @@ fn hold_one<K: Key, S: RecordStore<K, u32>>(store: &mut S) {
 /// any store and then with saving and reloading.
 pub fn every_fill_backed<K: Key, L: RecordStore<K, u32> + Drop, B: RecordStore<K, u32> + Drop>(
     rt: &impl Abort,
-    live: L,
-    back: B,
+    mut live: L,
+    mut back: B,
     heap: Global,
 ) -> Result<(), Fail> {
-    let mut live = live;
-    let mut back = back;
     hold_one(&mut live);
     hold_one(&mut back);
     let live_room = live.room();
     let back_room = back.room();
-    let mut backed = Backed::over(live, back);
+    let backed = Backed::over(live, back);
     let empty = backed.count() == 0 && backed.back().count() == 0;
     let rooms = backed.room() == live_room && backed.back().room() == back_room;
     assert!(rt; empty && rooms, "making");
-    every_fill(rt, &mut backed, heap)?;
-    save_and_reload(rt, &mut backed, heap, widest(K::LIMIT))
+    let mut drill = Drill::new(rt, backed, heap);
+    drill.every_fill()?;
+    drill.save_and_reload(heap)
 }

@@ -2,6 +2,7 @@
 use crate::plain::PlainMap;
 use key::{Key, Refusal};
 use std::alloc::Global;
+use std::marker::PhantomData;
 use std::process::Abort;
 use std::test::Fail;
 use store::{MOST_ROOM, RecordStore};
@@ -10,7 +11,7 @@ use store::{MOST_ROOM, RecordStore};
 pub const KEYS: u64 = 13;
 
 /// The order in which keys arrive.
-#[derive(Clone, Copy)]
+#[derive(Clone, Copy, PartialEq, Eq, Debug)]
 pub enum Arrival {
     Rising,
     Falling,
@@ -29,29 +30,20 @@ impl Arrival {
     }
 }
 
+/// How far apart the drill's keys are when they reach from 0 to the last key of all, or close to it.
+pub fn widest<K: Key>() -> u64 {
+    K::LIMIT.wrapping_sub(1) / (KEYS - 1)
+}
+
 /// The key at a place of the drill. The keys are `spread` apart, from 0 on.
 fn key_at<K: Key>(place: u64, spread: u64) -> Result<K, Fail> {
-    K::from_number(place.wrapping_mul(spread)).ok_or_else(|| Fail::new(
-        "the drill's keys are spread too far",
-    ))
+    let Some(k) = K::from_number(place.wrapping_mul(spread)) else {
+        return Err(Fail::new("the drill's keys are spread too far"));
+    };
+    Ok(k)
 }
 
-/// How far apart the drill's keys are when they reach from 0 to the last key of all, or close to it.
-pub fn widest(limit: u64) -> u64 {
-    limit.wrapping_sub(1) / (KEYS - 1)
-}
-
-/// The number of a key that may be there.
-fn number_of<K: Key>(k: Option<K>) -> Option<u64> {
-    k.map(K::to_number)
-}
-
-/// 0 for what was done, or the refusal's number.
-pub fn number_answered(answer: Result<(), Refusal>) -> u8 {
-    answer.map_or_else(u8::from, |()| 0)
-}
-
-/// Compares all that the store answers without being changed.
+/// Compares all that a store answers without being changed with what it should hold.
 pub fn compare<K: Key, S: RecordStore<K, u32>>(
     rt: &impl Abort,
     store: &S,
@@ -60,143 +52,141 @@ pub fn compare<K: Key, S: RecordStore<K, u32>>(
 ) -> Result<(), Fail> {
     let same = store.count() == plain.count() && store.room() == plain.room();
     assert!(rt; same, "count or room");
-    assert_eq!(rt; number_of(store.next(&None)), plain.least_from(0), "next");
+    let first = store.next(&None).map(K::to_number);
+    assert_eq!(rt; first, plain.least_from(0), "next");
     for place in 0..KEYS {
         let k: K = key_at(place, spread)?;
         let number = k.to_number();
         assert_eq!(rt; store.find(k), plain.find(number), "find");
         let above = plain.least_from(number.wrapping_add(1));
-        assert_eq!(rt; number_of(store.next(&Some(k))), above, "next above");
+        let next = store.next(&Some(k)).map(K::to_number);
+        assert_eq!(rt; next, above, "next above");
     }
     Ok(())
 }
 
-/// Puts a record into both, and compares.
-pub fn put_both<K: Key, S: RecordStore<K, u32>>(
-    rt: &impl Abort,
-    store: &mut S,
-    plain: &mut PlainMap,
-    k: K,
-    record: u32,
-    spread: u64,
-) -> Result<(), Fail> {
-    let expected = if plain.put(k.to_number(), record)? {
-        0
-    } else {
-        5
-    };
-    assert_eq!(rt; number_answered(store.put(k, record)), expected, "put");
-    compare(rt, store, plain, spread)
+/// A store beside the map that says what it should hold: the same calls go to both, and every answer is compared.
+#[derive(Drop)]
+pub struct Drill<'a, R, K, S> {
+    pub rt: &'a R,
+    pub store: S,
+    pub plain: PlainMap,
+    /// How far apart the keys are.
+    pub spread: u64,
+    of: PhantomData<K>,
 }
 
-/// Drops a key from both, and compares.
-pub fn remove_both<K: Key, S: RecordStore<K, u32>>(
-    rt: &impl Abort,
-    store: &mut S,
-    plain: &mut PlainMap,
-    k: K,
-    spread: u64,
-) -> Result<(), Fail> {
-    let expected = plain.remove(k.to_number());
-    assert_eq!(rt; store.remove(k), expected, "remove");
-    compare(rt, store, plain, spread)
-}
-
-/// Empties both, and takes as many keys as the fill says.
-pub fn fill_both<K: Key, S: RecordStore<K, u32>>(
-    rt: &impl Abort,
-    store: &mut S,
-    plain: &mut PlainMap,
-    fill: usize,
-    arrival: Arrival,
-    spread: u64,
-) -> Result<(), Fail> {
-    store.clear();
-    plain.clear();
-    compare(rt, store, plain, spread)?;
-    for turn in 0..fill {
-        let k: K = key_at(arrival.place(turn), spread)?;
-        put_both(rt, store, plain, k, (turn % 100) as u32, spread)?;
+impl<'a, R: Abort, K: Key, S: RecordStore<K, u32>> Drill<'a, R, K, S> {
+    /// A drill of a store that is empty.
+    pub fn new(rt: &'a R, store: S, heap: Global) -> Drill<'a, R, K, S> {
+        let plain = PlainMap::new(heap, store.room());
+        Drill {
+            rt,
+            store,
+            plain,
+            spread: 1,
+            of: PhantomData,
+        }
     }
-    Ok(())
-}
 
-/// Each key set anew, dropped and taken again, whether it was there or not.
-fn stir<K: Key, S: RecordStore<K, u32>>(
-    rt: &impl Abort,
-    store: &mut S,
-    plain: &mut PlainMap,
-    spread: u64,
-) -> Result<(), Fail> {
-    for place in 0..KEYS {
-        let k: K = key_at(place, spread)?;
-        put_both(rt, store, plain, k, (place % 100) as u32 + 100, spread)?;
-        remove_both(rt, store, plain, k, spread)?;
-        remove_both(rt, store, plain, k, spread)?;
-        let next: K = key_at((place + 1) % KEYS, spread)?;
-        put_both(rt, store, plain, next, (place % 100) as u32 + 200, spread)?;
-        put_both(rt, store, plain, k, (place % 100) as u32 + 300, spread)?;
+    /// The key at a place of the drill.
+    fn key(&self, place: u64) -> Result<K, Fail> {
+        key_at(place, self.spread)
     }
-    Ok(())
-}
 
-/// Stirs the store at each fill from empty to full.
-fn fills_of<K: Key, S: RecordStore<K, u32>>(
-    rt: &impl Abort,
-    store: &mut S,
-    plain: &mut PlainMap,
-    arrival: Arrival,
-    spread: u64,
-) -> Result<(), Fail> {
-    for fill in 0..=plain.room() {
-        fill_both(rt, store, plain, fill, arrival, spread)?;
-        stir(rt, store, plain, spread)?;
+    /// Compares the store with the map.
+    pub fn compare(&self) -> Result<(), Fail> {
+        compare(self.rt, &self.store, &self.plain, self.spread)
     }
-    Ok(())
-}
 
-/// The smallest and the largest key of all.
-fn both_ends<K: Key, S: RecordStore<K, u32>>(
-    rt: &impl Abort,
-    store: &mut S,
-    plain: &mut PlainMap,
-) -> Result<(), Fail> {
-    store.clear();
-    plain.clear();
-    let first: K = key_at(0, 1)?;
-    let last: K = key_at(K::LIMIT.wrapping_sub(1), 1)?;
-    put_both(rt, store, plain, last, 1, 1)?;
-    put_both(rt, store, plain, first, 2, 1)?;
-    let found = store.find(last) == plain.find(last.to_number());
-    let next = number_of(store.next(&Some(first))) == plain.least_from(1);
-    let end = store.next(&Some(last)).is_none() && K::from_number(K::LIMIT).is_none();
-    assert!(rt; found && next && end, "the last key of all");
-    remove_both(rt, store, plain, last, 1)
-}
-
-/// Runs the store through each fill, with keys side by side and as far apart as they go, arriving in each order.
-pub fn every_fill<K: Key, S: RecordStore<K, u32>>(
-    rt: &impl Abort,
-    store: &mut S,
-    heap: Global,
-) -> Result<(), Fail> {
-    let room = store.room();
-    let mut plain = PlainMap::new(heap, room);
-    for arrival in [Arrival::Rising, Arrival::Falling, Arrival::Scattered] {
-        fills_of(rt, store, &mut plain, arrival, 1)?;
-        fills_of(rt, store, &mut plain, arrival, widest(K::LIMIT))?;
+    /// Puts a record into both.
+    fn put(&mut self, k: K, record: u32) -> Result<(), Fail> {
+        let expected = if self.plain.put(k.to_number(), record)? {
+            Ok(())
+        } else {
+            Err(Refusal::StoreFull)
+        };
+        assert_eq!(self.rt; self.store.put(k, record), expected, "put");
+        self.compare()
     }
-    both_ends(rt, store, &mut plain)
+
+    /// Drops a key from both.
+    fn remove(&mut self, k: K) -> Result<(), Fail> {
+        let expected = self.plain.remove(k.to_number());
+        assert_eq!(self.rt; self.store.remove(k), expected, "remove");
+        self.compare()
+    }
+
+    /// Empties both, and takes as many keys as the fill says.
+    pub fn fill(&mut self, fill: usize, arrival: Arrival) -> Result<(), Fail> {
+        self.store.clear();
+        self.plain.clear();
+        self.compare()?;
+        for turn in 0..fill {
+            let k = self.key(arrival.place(turn))?;
+            self.put(k, (turn % 100) as u32)?;
+        }
+        Ok(())
+    }
+
+    /// Each key set anew, dropped and taken again, whether it was there or not.
+    fn stir(&mut self) -> Result<(), Fail> {
+        for place in 0..KEYS {
+            let k = self.key(place)?;
+            self.put(k, (place % 100) as u32 + 100)?;
+            self.remove(k)?;
+            self.remove(k)?;
+            let next = self.key((place + 1) % KEYS)?;
+            self.put(next, (place % 100) as u32 + 200)?;
+            self.put(k, (place % 100) as u32 + 300)?;
+        }
+        Ok(())
+    }
+
+    /// Stirs the store at each fill from empty to full, with keys so far apart.
+    fn fills(&mut self, arrival: Arrival, spread: u64) -> Result<(), Fail> {
+        self.spread = spread;
+        for fill in 0..=self.plain.room() {
+            self.fill(fill, arrival)?;
+            self.stir()?;
+        }
+        Ok(())
+    }
+
+    /// The smallest and the largest key of all.
+    fn both_ends(&mut self) -> Result<(), Fail> {
+        self.store.clear();
+        self.plain.clear();
+        self.spread = 1;
+        let first = self.key(0)?;
+        let last = self.key(K::LIMIT.wrapping_sub(1))?;
+        self.put(last, 1)?;
+        self.put(first, 2)?;
+        let found = self.store.find(last) == self.plain.find(last.to_number());
+        let next = self.store.next(&Some(first)).map(K::to_number) == self.plain.least_from(1);
+        let end = self.store.next(&Some(last)).is_none() && K::from_number(K::LIMIT).is_none();
+        assert!(self.rt; found && next && end, "the last key of all");
+        self.remove(last)
+    }
+
+    /// Runs the store through each fill, with keys side by side and as far apart as they go, arriving in each order.
+    pub fn every_fill(&mut self) -> Result<(), Fail> {
+        for arrival in [Arrival::Rising, Arrival::Falling, Arrival::Scattered] {
+            self.fills(arrival, 1)?;
+            self.fills(arrival, widest::<K>())?;
+        }
+        self.both_ends()
+    }
 }
 
-/// The same for a store that is not wanted afterwards.
+/// Runs an empty store through each fill.
 pub fn every_fill_of<K: Key, S: RecordStore<K, u32> + Drop>(
     rt: &impl Abort,
     store: S,
     heap: Global,
 ) -> Result<(), Fail> {
-    let mut store = store;
-    every_fill(rt, &mut store, heap)
+    let mut drill = Drill::new(rt, store, heap);
+    drill.every_fill()
 }
 
 /// Puts each number below 65,536 at the key of that number, in rising order.
@@ -206,7 +196,7 @@ fn fill_largest<K: Key, S: RecordStore<K, u32>>(
 ) -> Result<(), Fail> {
     for number in 0..65_536u32 {
         let k: K = key_at(number as u64, 1)?;
-        assert_eq!(rt; number_answered(store.put(k, number)), 0);
+        assert_eq!(rt; store.put(k, number), Ok(()));
     }
     Ok(())
 }
@@ -214,25 +204,21 @@ fn fill_largest<K: Key, S: RecordStore<K, u32>>(
 /// A store of the largest room, filled: the last place is taken, given back and taken again.
 pub fn largest_room<K: Key, S: RecordStore<K, u32> + Drop>(
     rt: &impl Abort,
-    store: S,
+    mut store: S,
 ) -> Result<(), Fail> {
-    let mut store = store;
     fill_largest(rt, &mut store)?;
     let first: K = key_at(0, 1)?;
     let last: K = key_at(65_535, 1)?;
     let more: K = key_at(65_536, 1)?;
-    let refused = number_answered(store.put(more, 1));
-    let stood = store.remove(first);
-    let taken = number_answered(store.put(more, 2));
-    let again = number_answered(store.put(first, 3));
-    let full = store.room() == MOST_ROOM && store.count() == MOST_ROOM;
+    let full = Err(Refusal::StoreFull);
+    assert_eq!(rt; store.put(more, 1), full, "the last place");
+    assert!(rt; store.remove(first), "the last place");
+    assert_eq!(rt; store.put(more, 2), Ok(()), "the last place");
+    assert_eq!(rt; store.put(first, 3), full, "the last place");
+    let counted = store.room() == MOST_ROOM && store.count() == MOST_ROOM;
     let found = store.find(last) == Some(65_535) && store.find(more) == Some(2);
     assert!(rt;
-        refused == 5 && stood && taken == 0 && again == 5,
-        "the last place"
-    );
-    assert!(rt;
-        full && found && store.find(first).is_none(),
+        counted && found && store.find(first).is_none(),
         "a full store"
     );
     Ok(())

@@ -1,4 +1,4 @@
-//! Any record store beside a plain list: the same calls go to both, and every answer is compared. All of it is for the
+//! Any record store beside the library's map: the same calls go to both, and every answer is compared. All of it is for the
 //! tests, and none of it for other crates.
 
 #![tactic(auto)]

@@ -1,4 +1,4 @@
-//! Rows, the tree, and stores with a back-up made of either, against the plain list.
+//! Rows, the tree, and stores with a back-up made of either, against the library's map.
 use crate::backing::every_fill_backed;
 use crate::drill::{every_fill_of, largest_room};
 use key::{Imsi, Tmsi};
