@@ -42,20 +42,12 @@ impl<K: Key, V: Copy> RecordStore<K, V> for Rows<K, V> {
     }
 
     fn find(&self, k: K) -> Option<V> {
-        let i = self.place(k.to_number()).ok()?;
-        Some(self.rows[i].value)
+        self.find_row(k.to_number())
     }
 
     fn next(&self, above: &Option<K>) -> Option<K> {
         let from = above.map_or(0, |k| k.to_number() + 1);
-        let i = match self.place(from) {
-            Ok(i) | Err(i) => i,
-        };
-        if i < self.len {
-            K::from_number(self.rows[i].key)
-        } else {
-            None
-        }
+        K::from_number(self.first_row(from)?)
     }
 
     fn put(&mut self, k: K, v: V) -> Result<(), Refusal>
@@ -63,18 +55,10 @@ impl<K: Key, V: Copy> RecordStore<K, V> for Rows<K, V> {
         ensures entries { PutSays (vec_len self.old.rows) (held self.old.rows.items self.old.len) (K.number k) v result (held self.new.rows.items self.new.len) }
         ensures slots { self.new.rows.items ≡ put_slots self.old.rows.items self.old.len (K.number k) v }
     {
-        let key = k.to_number();
-        let row = Row { key, value: v };
-        match self.place(key) {
-            Ok(i) => self.rows[i] = row,
-            Err(_) if self.len == self.rows.len() => return Err(Refusal::StoreFull),
-            Err(i) => {
-                self.rows.copy_within(i..self.len, i + 1);
-                self.rows[i] = row;
-                self.len += 1;
-            }
-        }
-        Ok(())
+        self.put_row(Row {
+            key: k.to_number(),
+            value: v,
+        })
     }
 
     fn remove(&mut self, k: K) -> bool
@@ -83,12 +67,7 @@ impl<K: Key, V: Copy> RecordStore<K, V> for Rows<K, V> {
         ensures entries { held self.new.rows.items self.new.len ≡ without (held self.old.rows.items self.old.len) (K.number k) }
         ensures slots { self.new.rows.items ≡ drop_slots self.old.rows.items self.old.len (K.number k) }
     {
-        let Ok(i) = self.place(k.to_number()) else {
-            return false;
-        };
-        self.rows.copy_within(i + 1..self.len, i);
-        self.len -= 1;
-        true
+        self.remove_row(k.to_number())
     }
 
     fn clear(&mut self)

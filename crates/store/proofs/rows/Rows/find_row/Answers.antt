@@ -4,24 +4,24 @@ use Rattle.store.specs.declared.row.Row.{Row}
 use Rattle.store.specs.Rows.{held}
 use Rattle.store.proofs.Maps.{none_from_holds}
 use Rattle.store.proofs.Places.{missed, found, inside, found_at}
-use Rattle.store.proofs.rows_store.RowsRecordStore.find.Goals as goal
+use Rattle.store.proofs.rows.Rows.find_row.Goals as goal
 
 pub returns-in_err-i : goal.returns-in_err-i
 returns-in_err-i g c =
     let es = held c.args.self.now.rows.items c.args.self.now.len in
-    let k = c.to_number.result in
-    rw (sym c.to_number.ensures.is) (c.from_residual.ensures ∙ sym (none_from_holds es k (missed es k c.place.result c.place.ensures (sym c.ok.ensures.value ∙ c.in_err-i.was))))
+    let k = c.args.key in
+    c.from_residual.ensures ∙ sym (none_from_holds es k (missed es k c.place.result c.place.ensures (sym c.ok.ensures.value ∙ c.in_err-i.was)))
 
 pub index-requires : goal.index-requires
 index-requires g c =
     let s = c.args.self.now in
-    let k = c.to_number.result in
+    let k = c.args.key in
     let there = found (held s.rows.items s.len) k c.in_ok-i.i c.place.result c.place.ensures (sym c.ok.ensures.value ∙ c.in_ok-i.was) in
     omega (arith, inside s.rows.items s.len k c.in_ok-i.i (omega arith) there)
 
 pub returns : goal.returns
 returns g c =
     let s = c.args.self.now in
-    let k = c.to_number.result in
+    let k = c.args.key in
     let there = found (held s.rows.items s.len) k c.in_ok-i.i c.place.result c.place.ensures (sym c.ok.ensures.value ∙ c.in_ok-i.was) in
-    rw (sym c.to_number.ensures.is, found_at s.rows.items s.len k c.in_ok-i.i (omega arith) there c.index.result.now) (ap (λ (x : Row _). Some x.value) c.index.ensures)
+    rw (found_at s.rows.items s.len k c.in_ok-i.i (omega arith) there c.index.result.now) (ap (λ (x : Row _). Some x.value) c.index.ensures)
