@@ -4,6 +4,7 @@ use Rattle.key.specs.Figures.{number_at}
 use Rattle.key.specs.declared.refusal.Refusal.{Refusal}
 use Rattle.key.specs.declared.refusal.Refusal.TheVariants.{InputTooShort, OutOfRange}
 use Rattle.event.specs.declared.operands.Contact.{Contact}
+use Rattle.event.specs.declared.operands.Located.{Located}
 use Rattle.event.specs.declared.events.Event.{Event}
 use Rattle.event.specs.Layout.{imsi_limit}
 use Rattle.event.specs.Decoding.{Reading, refused, found, contact_in_range}
@@ -18,6 +19,10 @@ imsi_read ops = checked 8 ops (nat_lt (number_at 8 0 ops) imsi_limit) (number_at
 
 abbrev pub contact_read : List ℕ → Result Contact Refusal
 contact_read ops = checked 10 ops (contact_in_range ops) (record { imsi = number_at 8 0 ops; auth = number_at 1 8 ops; msc = number_at 1 9 ops })
+
+abbrev pub located_read : List ℕ → Result Located Refusal
+located_read ops =
+    checked 12 ops (contact_in_range ops) (record { imsi = number_at 8 0 ops; auth = number_at 1 8 ops; msc = number_at 1 9 ops; area = number_at 2 10 ops })
 
 -- what the parser answered
 abbrev pub parsed : Result Event Refusal → Reading

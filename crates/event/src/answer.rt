@@ -78,30 +78,30 @@ pub struct Answer {
     pub subject: Subject,
 }
 
-impl Reply {
+impl From<Reply> for u8 {
+    ghost from_gives = { λ reply n. n ≡ reply_number reply };
+
     /// The number that stands in an answer's bytes.
-    pub fn number(self) -> u8
-        ensures { result ≡ reply_number self }
-    {
-        self as u8
+    fn from(reply: Reply) -> u8 {
+        reply as u8
     }
 }
 
-impl Handling {
+impl From<Handling> for u8 {
+    ghost from_gives = { λ handling n. n ≡ handling_number handling };
+
     /// The number that stands in an answer's bytes.
-    pub fn number(self) -> u8
-        ensures { result ≡ handling_number self }
-    {
-        self as u8
+    fn from(handling: Handling) -> u8 {
+        handling as u8
     }
 }
 
-impl Kind {
+impl From<Kind> for u8 {
+    ghost from_gives = { λ kind n. n ≡ kind_number kind };
+
     /// The number that stands in an answer's bytes.
-    pub fn number(self) -> u8
-        ensures { result ≡ kind_number self }
-    {
-        self as u8
+    fn from(kind: Kind) -> u8 {
+        kind as u8
     }
 }
 
@@ -111,23 +111,25 @@ impl Ignored {
         supplementary: false,
         regional: false,
     };
+}
+
+impl From<Ignored> for u8 {
+    ghost from_gives = { λ ignored n. n ≡ ignored_number ignored };
 
     /// The number that stands in an answer's bytes: the weights of the groups, added.
-    pub fn number(self) -> u8
-        ensures { result ≡ ignored_number self }
-    {
-        let supplementary = if self.supplementary { 4 } else { 0 };
-        let regional = if self.regional { 32 } else { 0 };
+    fn from(ignored: Ignored) -> u8 {
+        let supplementary = if ignored.supplementary { 4 } else { 0 };
+        let regional = if ignored.regional { 32 } else { 0 };
         supplementary + regional
     }
 }
 
-impl Subject {
+impl From<Subject> for u64 {
+    ghost from_gives = { λ subject n. n ≡ subject_number subject };
+
     /// The number that stands in an answer's bytes.
-    pub fn number(self) -> u64
-        ensures { result ≡ subject_number self }
-    {
-        match self {
+    fn from(subject: Subject) -> u64 {
+        match subject {
             Subject::Nobody => 0,
             Subject::Subscriber(imsi) => imsi,
             Subject::Records(count) => count,
@@ -140,10 +142,7 @@ fn shown(opened: Option<Opened>) -> (u8, u32)
     ensures kind { result.0 ≡ opened_number opened }
     ensures dialogue { result.1 ≡ dialogue_shown opened }
 {
-    match opened {
-        Some(opened) => (opened.kind.number(), opened.dialogue),
-        None => (0, 0),
-    }
+    opened.map_or((0, 0), |opened| (opened.kind.into(), opened.dialogue))
 }
 
 impl Answer {
@@ -153,24 +152,23 @@ impl Answer {
     {
         let (kind, _) = shown(self.opened);
         [
-            self.reply.number(),
-            self.handling.number(),
+            self.reply.into(),
+            self.handling.into(),
             kind,
-            self.ignored.number(),
+            self.ignored.into(),
         ]
     }
 
     /// The answer in bytes, numbers with the highest byte first.
-    pub fn bytes(self) -> [u8; 16]
+    pub fn bytes(self) -> [u8; ANSWER_LENGTH]
         ensures { result ≡ answer_bytes self }
     {
         let (_, dialogue) = shown(self.opened);
-        let [reply, handling, kind, ignored] = self.head();
-        let [a, b, c, d] = dialogue.to_be_bytes();
-        let [s, t, u, v, w, x, y, z] = self.subject.number().to_be_bytes();
-        [
-            reply, handling, kind, ignored, a, b, c, d, s, t, u, v, w, x, y, z,
-        ]
+        let mut bytes = [0; ANSWER_LENGTH];
+        bytes[..4].copy_from_slice(&self.head());
+        bytes[4..8].copy_from_slice(&dialogue.to_be_bytes());
+        bytes[8..].copy_from_slice(&u64::from(self.subject).to_be_bytes());
+        bytes
     }
 
     /// Writes the answer to the front of an area and keeps what lies beyond, or refuses an area that is too short.
@@ -181,8 +179,7 @@ impl Answer {
         if area.len() < ANSWER_LENGTH {
             return Err(Refusal::AreaTooShort);
         }
-        let bytes = self.bytes();
-        area[0..ANSWER_LENGTH].copy_from_slice(&bytes);
+        area[..ANSWER_LENGTH].copy_from_slice(&self.bytes());
         Ok(())
     }
 }

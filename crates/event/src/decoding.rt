@@ -1,12 +1,11 @@
 //! Reading one event from the front of bytes.
 ghost use Rattle.std.specs.Prelude.{◌≡◌};
-ghost use Rattle.event.specs.Layout.{access, registration};
 ghost use Rattle.event.specs.Seen.{reading};
-ghost use Rattle.event.specs.Decoding.{DecodingLaw, ExactlyLaid, decoded, read_coded, read_contact, read_outgoing, read_insert, read_end, read_reset};
+ghost use Rattle.event.specs.Decoding.{DecodingLaw, ExactlyLaid, decoded, read_coded, read_insert, read_end, read_reset};
 ghost use Rattle.event.specs.Operands.{parsed};
 
 use crate::events::{Event, GROUP_LENGTH};
-use crate::operands::{Contact, read_contact, read_imsi};
+use crate::operands::{read_contact, read_imsi, read_located};
 use key::{HlrId, Refusal, number_at};
 
 /// An event, and how many bytes it took.
@@ -14,45 +13,6 @@ use key::{HlrId, Refusal, number_at};
 pub struct Decoded<'a> {
     pub event: Event<'a>,
     pub length: usize,
-}
-
-fn read_outgoing(operands: &[u8]) -> Result<Event<'_>, Refusal>
-    ensures { parsed result ≡ read_outgoing operands.now }
-{
-    let Contact { imsi, auth, msc } = read_contact(operands)?;
-    Ok(Event::Outgoing { imsi, auth, msc })
-}
-
-fn read_access(operands: &[u8]) -> Result<Event<'_>, Refusal>
-    ensures { parsed result ≡ read_contact access operands.now }
-{
-    if operands.len() < 12 {
-        return Err(Refusal::InputTooShort);
-    }
-    let Contact { imsi, auth, msc } = read_contact(operands)?;
-    let area = number_at(operands, 10, 2) as u16;
-    Ok(Event::Access {
-        imsi,
-        auth,
-        msc,
-        area,
-    })
-}
-
-fn read_registration(operands: &[u8]) -> Result<Event<'_>, Refusal>
-    ensures { parsed result ≡ read_contact registration operands.now }
-{
-    if operands.len() < 12 {
-        return Err(Refusal::InputTooShort);
-    }
-    let Contact { imsi, auth, msc } = read_contact(operands)?;
-    let area = number_at(operands, 10, 2) as u16;
-    Ok(Event::Registration {
-        imsi,
-        auth,
-        msc,
-        area,
-    })
 }
 
 fn read_insert(operands: &[u8]) -> Result<Event<'_>, Refusal>
@@ -63,10 +23,10 @@ fn read_insert(operands: &[u8]) -> Result<Event<'_>, Refusal>
     }
     let dialogue = number_at(operands, 0, 4) as u32;
     let count = number_at(operands, 4, 1) as u8;
-    if count < 1 || count > 6 {
+    if !(1..=6).contains(&count) {
         return Err(Refusal::OutOfRange);
     }
-    let end = 5 + GROUP_LENGTH * count as usize;
+    let end = 5 + GROUP_LENGTH * usize::from(count);
     if operands.len() < end {
         return Err(Refusal::InputTooShort);
     }
@@ -99,43 +59,43 @@ fn read_reset(operands: &[u8]) -> Result<Event<'_>, Refusal>
     }
     let digits = number_at(operands, 0, 1) as u8;
     let value = number_at(operands, 1, 8);
-    match HlrId::new(digits, value) {
-        Some(_) => Ok(Event::Reset { digits, value }),
-        None => Err(Refusal::OutOfRange),
-    }
+    HlrId::new(digits, value)
+        .map(|_| Event::Reset { digits, value })
+        .ok_or(Refusal::OutOfRange)
 }
 
 /// The event of that code, from the bytes after the code.
 fn read_coded(code: u8, operands: &[u8]) -> Result<Event<'_>, Refusal>
     ensures { parsed result ≡ read_coded code operands.now }
 {
-    match code {
-        0x01 => Ok(Event::ProvideRoamingNumber(read_imsi(operands)?)),
-        0x02 => Ok(Event::CallInformation(read_imsi(operands)?)),
-        0x03 => Ok(Event::ShortMessageV2(read_imsi(operands)?)),
-        0x04 => Ok(Event::ShortMessageV1(read_imsi(operands)?)),
-        0x05 => Ok(Event::LocationRequest(read_imsi(operands)?)),
-        0x06 => read_access(operands),
-        0x07 => read_outgoing(operands),
-        0x08 => read_registration(operands),
-        0x09 => Ok(Event::OpenUpdate(read_imsi(operands)?)),
-        0x0A => read_insert(operands),
-        0x0B => read_end(operands),
-        0x0C => read_reset(operands),
-        0x0D => Ok(Event::Cancel(read_imsi(operands)?)),
-        0x0E => Ok(Event::Restart),
-        _ => Err(Refusal::UnknownCode),
-    }
+    Ok(match code {
+        0x01 => Event::ProvideRoamingNumber(read_imsi(operands)?),
+        0x02 => Event::CallInformation(read_imsi(operands)?),
+        0x03 => Event::ShortMessageV2(read_imsi(operands)?),
+        0x04 => Event::ShortMessageV1(read_imsi(operands)?),
+        0x05 => Event::LocationRequest(read_imsi(operands)?),
+        0x06 => read_located(operands)?.access(),
+        0x07 => read_contact(operands)?.outgoing(),
+        0x08 => read_located(operands)?.registration(),
+        0x09 => Event::OpenUpdate(read_imsi(operands)?),
+        0x0A => read_insert(operands)?,
+        0x0B => read_end(operands)?,
+        0x0C => read_reset(operands)?,
+        0x0D => Event::Cancel(read_imsi(operands)?),
+        0x0E => Event::Restart,
+        _ => return Err(Refusal::UnknownCode),
+    })
 }
 
 /// The event at the front of the input, from its code on.
+#[tactic(auto, unfolding(crate::specs::Decoding::decoded))]
 fn parse(input: &[u8]) -> Result<Event<'_>, Refusal>
     ensures { parsed result ≡ decoded input.now }
 {
-    if input.len() < 1 {
+    let [code, operands @ ..] = input else {
         return Err(Refusal::UnknownCode);
-    }
-    read_coded(input[0], &input[1..])
+    };
+    read_coded(*code, operands)
 }
 
 /// The event at the front of the input with its length.

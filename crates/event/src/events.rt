@@ -6,8 +6,8 @@ ghost use Rattle.event.specs.Seen.{as_event};
 /// Bytes that stand for a group of subscriber data: its letter and ten value bytes.
 pub const GROUP_LENGTH: usize = 11;
 
-/// What can happen at a visitor register. Operands are plain numbers, as they stand in the bytes;
-/// an Insert borrows its groups from the input.
+/// What can happen at a visitor register. Operands are plain numbers, as they stand in the bytes, since a
+/// register takes events made by hand too, and refuses what is out of range; an Insert borrows its groups from the input.
 #[derive(Drop)]
 pub enum Event<'a> {
     /// The home register asks for a roaming number, for a call to the subscriber.

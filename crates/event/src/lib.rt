@@ -6,6 +6,7 @@ mod answer;
 mod decoding;
 mod events;
 mod operands;
+mod words;
 
 pub use answer::{ANSWER_LENGTH, Answer, Handling, Ignored, Kind, Opened, Reply, Subject};
 pub use decoding::{Decoded, decode, decoding_law};

@@ -1,8 +1,11 @@
 //! The operands of an event, from the bytes after its code.
 ghost use Rattle.std.specs.Prelude.{◌≡◌};
-ghost use Rattle.event.specs.Operands.{imsi_read, contact_read};
+ghost use Rattle.event.specs.Layout.{access, outgoing, registration};
+ghost use Rattle.event.specs.Seen.{as_event};
+ghost use Rattle.event.specs.Operands.{imsi_read, contact_read, located_read};
 
-use key::{Imsi, Refusal, number_at, read_key};
+use crate::events::Event;
+use key::{IMSI_LIMIT, Imsi, Refusal, number_at, read_key};
 
 /// What every contact of a handset begins with: who, whether authentication passed, through which exchange.
 #[derive(Clone, Copy)]
@@ -12,12 +15,69 @@ pub struct Contact {
     pub msc: u8,
 }
 
+/// A contact that tells the location area too.
+#[derive(Clone, Copy)]
+pub struct Located {
+    pub imsi: u64,
+    pub auth: u8,
+    pub msc: u8,
+    pub area: u16,
+}
+
+impl Contact {
+    /// The contact as a request of the handset's own.
+    pub fn outgoing(self) -> Event<'static>
+        ensures { as_event result ≡ outgoing self.imsi self.auth self.msc }
+    {
+        let Contact { imsi, auth, msc } = self;
+        Event::Outgoing { imsi, auth, msc }
+    }
+}
+
+impl Located {
+    /// The contact as the answer to a page or a search.
+    pub fn access(self) -> Event<'static>
+        ensures { as_event result ≡ access self.imsi self.auth self.msc self.area }
+    {
+        let Located {
+            imsi,
+            auth,
+            msc,
+            area,
+        } = self;
+        Event::Access {
+            imsi,
+            auth,
+            msc,
+            area,
+        }
+    }
+
+    /// The contact as a registration of the location.
+    pub fn registration(self) -> Event<'static>
+        ensures { as_event result ≡ registration self.imsi self.auth self.msc self.area }
+    {
+        let Located {
+            imsi,
+            auth,
+            msc,
+            area,
+        } = self;
+        Event::Registration {
+            imsi,
+            auth,
+            msc,
+            area,
+        }
+    }
+}
+
 /// The IMSI that the operands begin with, as its number.
+#[tactic(auto, unfolding(key::specs::Figures::number_at))]
 pub fn read_imsi(operands: &[u8]) -> Result<u64, Refusal>
     ensures { result ≡ imsi_read operands.now }
 {
-    let imsi = read_key::<Imsi>(operands)?;
-    Ok(imsi.number())
+    read_key::<Imsi, { IMSI_LIMIT }>(operands).map(Imsi::number)
 }
 
 /// What the operands of a contact begin with.
@@ -34,4 +94,21 @@ pub fn read_contact(operands: &[u8]) -> Result<Contact, Refusal>
         return Err(Refusal::OutOfRange);
     }
     Ok(Contact { imsi, auth, msc })
+}
+
+/// What the operands of a contact with its area begin with.
+pub fn read_located(operands: &[u8]) -> Result<Located, Refusal>
+    ensures { result ≡ located_read operands.now }
+{
+    if operands.len() < 12 {
+        return Err(Refusal::InputTooShort);
+    }
+    let Contact { imsi, auth, msc } = read_contact(operands)?;
+    let area = number_at(operands, 10, 2) as u16;
+    Ok(Located {
+        imsi,
+        auth,
+        msc,
+        area,
+    })
 }
