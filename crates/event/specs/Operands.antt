@@ -17,12 +17,14 @@ checked n ops ok t = cond (nat_lt (length ops) n) (Err InputTooShort) (cond ok (
 abbrev pub imsi_read : List ℕ → Result ℕ Refusal
 imsi_read ops = checked 8 ops (nat_lt (number_at 8 0 ops) imsi_limit) (number_at 8 0 ops)
 
+abbrev pub contact_at_front : List ℕ → Contact
+contact_at_front ops = record { imsi = number_at 8 0 ops; auth = number_at 1 8 ops; msc = number_at 1 9 ops }
+
 abbrev pub contact_read : List ℕ → Result Contact Refusal
-contact_read ops = checked 10 ops (contact_in_range ops) (record { imsi = number_at 8 0 ops; auth = number_at 1 8 ops; msc = number_at 1 9 ops })
+contact_read ops = checked 10 ops (contact_in_range ops) (contact_at_front ops)
 
 abbrev pub located_read : List ℕ → Result Located Refusal
-located_read ops =
-    checked 12 ops (contact_in_range ops) (record { imsi = number_at 8 0 ops; auth = number_at 1 8 ops; msc = number_at 1 9 ops; area = number_at 2 10 ops })
+located_read ops = checked 12 ops (contact_in_range ops) (record { contact = contact_at_front ops; area = number_at 2 10 ops })
 
 -- what the parser answered
 abbrev pub parsed : Result Event Refusal → Reading

@@ -68,23 +68,23 @@ fn read_reset(operands: &[u8]) -> Result<Event<'_>, Refusal>
 fn read_coded(code: u8, operands: &[u8]) -> Result<Event<'_>, Refusal>
     ensures { parsed result ≡ read_coded code operands.now }
 {
-    Ok(match code {
-        0x01 => Event::ProvideRoamingNumber(read_imsi(operands)?),
-        0x02 => Event::CallInformation(read_imsi(operands)?),
-        0x03 => Event::ShortMessageV2(read_imsi(operands)?),
-        0x04 => Event::ShortMessageV1(read_imsi(operands)?),
-        0x05 => Event::LocationRequest(read_imsi(operands)?),
-        0x06 => read_located(operands)?.access(),
-        0x07 => read_contact(operands)?.outgoing(),
-        0x08 => read_located(operands)?.registration(),
-        0x09 => Event::OpenUpdate(read_imsi(operands)?),
-        0x0A => read_insert(operands)?,
-        0x0B => read_end(operands)?,
-        0x0C => read_reset(operands)?,
-        0x0D => Event::Cancel(read_imsi(operands)?),
-        0x0E => Event::Restart,
-        _ => return Err(Refusal::UnknownCode),
-    })
+    match code {
+        0x01 => Ok(Event::ProvideRoamingNumber(read_imsi(operands)?)),
+        0x02 => Ok(Event::CallInformation(read_imsi(operands)?)),
+        0x03 => Ok(Event::ShortMessageV2(read_imsi(operands)?)),
+        0x04 => Ok(Event::ShortMessageV1(read_imsi(operands)?)),
+        0x05 => Ok(Event::LocationRequest(read_imsi(operands)?)),
+        0x06 => Ok(read_located(operands)?.access()),
+        0x07 => Ok(read_contact(operands)?.outgoing()),
+        0x08 => Ok(read_located(operands)?.registration()),
+        0x09 => Ok(Event::OpenUpdate(read_imsi(operands)?)),
+        0x0A => read_insert(operands),
+        0x0B => read_end(operands),
+        0x0C => read_reset(operands),
+        0x0D => Ok(Event::Cancel(read_imsi(operands)?)),
+        0x0E => Ok(Event::Restart),
+        _ => Err(Refusal::UnknownCode),
+    }
 }
 
 /// The event at the front of the input, from its code on.

@@ -18,9 +18,7 @@ pub struct Contact {
 /// A contact that tells the location area too.
 #[derive(Clone, Copy)]
 pub struct Located {
-    pub imsi: u64,
-    pub auth: u8,
-    pub msc: u8,
+    pub contact: Contact,
     pub area: u16,
 }
 
@@ -37,14 +35,10 @@ impl Contact {
 impl Located {
     /// The contact as the answer to a page or a search.
     pub fn access(self) -> Event<'static>
-        ensures { as_event result ≡ access self.imsi self.auth self.msc self.area }
+        ensures { as_event result ≡ access self.contact.imsi self.contact.auth self.contact.msc self.area }
     {
-        let Located {
-            imsi,
-            auth,
-            msc,
-            area,
-        } = self;
+        let Contact { imsi, auth, msc } = self.contact;
+        let area = self.area;
         Event::Access {
             imsi,
             auth,
@@ -55,14 +49,10 @@ impl Located {
 
     /// The contact as a registration of the location.
     pub fn registration(self) -> Event<'static>
-        ensures { as_event result ≡ registration self.imsi self.auth self.msc self.area }
+        ensures { as_event result ≡ registration self.contact.imsi self.contact.auth self.contact.msc self.area }
     {
-        let Located {
-            imsi,
-            auth,
-            msc,
-            area,
-        } = self;
+        let Contact { imsi, auth, msc } = self.contact;
+        let area = self.area;
         Event::Registration {
             imsi,
             auth,
@@ -103,12 +93,7 @@ pub fn read_located(operands: &[u8]) -> Result<Located, Refusal>
     if operands.len() < 12 {
         return Err(Refusal::InputTooShort);
     }
-    let Contact { imsi, auth, msc } = read_contact(operands)?;
+    let contact = read_contact(operands)?;
     let area = number_at(operands, 10, 2) as u16;
-    Ok(Located {
-        imsi,
-        auth,
-        msc,
-        area,
-    })
+    Ok(Located { contact, area })
 }
