@@ -1,5 +1,5 @@
 -- An event is read exactly where the input begins with its form. Assumes nothing.
-use Rattle.std.proofs.Common.{◌≡◌, ℕ, ◌+◌, ◌*◌, ◌^◌, ◌<◌, ◌≤◌, true, ◌&&◌, eqb, ltb, leb, List, [], ◌∷◌, ◌++◌, length, get_or, take, drop, sym, refl, ap, ◌∙◌, subst, append_assoc, arith, lit≤, length-append, length-drop, ltb-false, ltb-true, le-ltb, lt-ltb}
+use Rattle.std.proofs.Common.{◌≡◌, ℕ, ◌+◌, ◌*◌, ◌^◌, ◌<◌, ◌≤◌, true, ◌&&◌, eqb, ltb, leb, List, [], ◌∷◌, ◌++◌, length, get_or, take, drop, sym, refl, ap, ◌∙◌, subst, append_assoc, arith, lit≤, length-append, length-drop, drop-cons, ltb-false, ltb-true, le-ltb, lt-ltb}
 use native.Mathlib.Nat.{pow-le-pow_right}
 use lib.Seq.{take-append_seam}
 use Rattle.std.specs.Int.Digits.{AllBelowBase}
@@ -168,10 +168,6 @@ stands_coded s ops code ok head =
     cond_both (eqb code 13) _ _ (Stands s) (λ t. stands_subscriber s ops 13 cancel ok (at 13 t) (λ k. refl) (λ k l. l)) (λ no13.
     cond_both (eqb code 14) _ _ (Stands s) (λ t. laid s restart ops (at 14 t) tt) (λ no14. tt))))))))))))))
 
-headed : (s : List ℕ) → 1 ≤ length s → s ≡ get_or s 0 0 ∷ drop 1 s
-headed [] l = absurd (omega arith)
-headed (b ∷ s) l = refl
-
 under_rest : (s : List ℕ) → AllBelowBase 256 s → AllBelowBase 256 (drop 1 s)
 under_rest [] ok = tt
 under_rest (b ∷ s) ok = ok.1
@@ -180,7 +176,7 @@ stands : (s : List ℕ) → AllBelowBase 256 s → Stands s (decoded s)
 unfolding decoded
 stands s ok =
     cond_both (ltb (length s) 1) _ _ (Stands s) (λ t. tt) (λ f.
-    stands_coded s (drop 1 s) (get_or s 0 0) (under_rest s ok) (headed s (ltb-false (length s) 1 f)))
+    stands_coded s (drop 1 s) (get_or s 0 0) (under_rest s ok) (drop-cons s 0 0 (ltb-false (length s) 1 f)))
 
 -- what stands there is read
 coded : (s ops : List ℕ) (code : ℕ) → s ≡ code ∷ ops → decoded s ≡ read_coded code ops

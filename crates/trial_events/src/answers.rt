@@ -44,7 +44,7 @@ mod tests {
     fn a_short_area_is_refused_and_a_long_one_keeps_what_lies_beyond(rt: HostRuntime) {
         for length in 0..20usize {
             let mut area = [7u8; 20];
-            let written = highest().write(&mut area[0..length]).is_ok();
+            let written = highest().write(&mut area[..length]).is_ok();
             assert_eq!(rt; written, length >= 16);
             assert_eq!(rt; area[0], if written { 0x24 } else { 7 });
             assert_eq!(rt; area[15], if written { 0xff } else { 7 });

@@ -1,4 +1,4 @@
-//! Events in bytes, tried in tables: both ends of every range, every truncation, and bytes that follow.
+//! Events in bytes, tried in tables: both ends of every range, every truncation, bytes that follow, and words.
 
 #![tactic(auto)]
 
@@ -6,3 +6,4 @@ mod answers;
 mod ranges;
 mod samples;
 mod truncations;
+mod words;

@@ -1,5 +1,6 @@
 //! One event of each code, and what decoding tells of bytes.
 use event::{Event, decode};
+use key::Refusal;
 
 /// The codes are 1 to so many.
 pub const CODES: u8 = 14;
@@ -26,20 +27,14 @@ pub fn sample(code: u8) -> &'static [u8] {
     }
 }
 
-/// The refusal's number, or 0 and the length.
-pub fn told(input: &[u8]) -> (u8, usize) {
-    match decode(input) {
-        Ok(decoded) => (0, decoded.length),
-        Err(refusal) => (refusal.number(), 0),
-    }
+/// How many bytes the event at the front takes, or why there is none.
+pub fn told(input: &[u8]) -> Result<usize, Refusal> {
+    decode(input).map(|decoded| decoded.length)
 }
 
-/// The code of the event that the input is read as, or 0.
-pub fn code_read(input: &[u8]) -> u8 {
-    match decode(input) {
-        Ok(decoded) => code_of(&decoded.event),
-        Err(_) => 0,
-    }
+/// The code of the event that the input is read as.
+pub fn code_read(input: &[u8]) -> Result<u8, Refusal> {
+    decode(input).map(|decoded| code_of(&decoded.event))
 }
 
 fn code_of(event: &Event<'_>) -> u8 {

@@ -2,14 +2,15 @@
 #[cfg(test)]
 mod tests {
     use crate::samples::*;
+    use key::Refusal;
     use std::test::Fail;
 
     #[test]
     fn every_code_is_read_whole(rt: HostRuntime) {
         for code in 1..=CODES {
             let event = sample(code);
-            assert_eq!(rt; told(event), (0, event.len()));
-            assert_eq!(rt; code_read(event), code);
+            assert_eq!(rt; told(event), Ok(event.len()));
+            assert_eq!(rt; code_read(event), Ok(code));
         }
     }
 
@@ -18,10 +19,10 @@ mod tests {
         for code in 1..=CODES {
             let event = sample(code);
             for n in 1..event.len() {
-                assert_eq!(rt; told(&event[0..n]), (3, 0));
+                assert_eq!(rt; told(&event[..n]), Err(Refusal::InputTooShort));
             }
         }
-        assert_eq!(rt; told(b""), (2, 0));
+        assert_eq!(rt; told(b""), Err(Refusal::UnknownCode));
     }
 
     #[test]
@@ -31,7 +32,7 @@ mod tests {
             let mut more = event.to_vec(rt.alloc())?;
             for follows in 0..40u8 {
                 more.push(follows.wrapping_mul(67))?;
-                assert_eq!(rt; told(&more), (0, event.len()));
+                assert_eq!(rt; told(&more), Ok(event.len()));
             }
         }
         Ok(())
@@ -39,11 +40,11 @@ mod tests {
 
     #[test]
     fn no_other_code_is_known(rt: HostRuntime) {
-        assert_eq!(rt; told(&[0; 80]), (2, 0));
+        assert_eq!(rt; told(&[0; 80]), Err(Refusal::UnknownCode));
         for code in 15..=255u8 {
             let mut input = [0u8; 80];
             input[0] = code;
-            assert_eq!(rt; told(&input), (2, 0));
+            assert_eq!(rt; told(&input), Err(Refusal::UnknownCode));
         }
     }
 }
