@@ -1,5 +1,5 @@
 -- An event is read exactly where the input begins with its form. Assumes nothing.
-use Rattle.std.proofs.Common.{◌≡◌, ℕ, ◌+◌, ◌*◌, ◌^◌, ◌<◌, ◌≤◌, true, ◌&&◌, eqb, ltb, leb, List, [], ◌∷◌, ◌++◌, length, get_or, take, drop, sym, refl, ap, ◌∙◌, subst, append_assoc, arith, lit≤, length-append, length-drop, drop-cons, ltb-false, ltb-true, le-ltb, lt-ltb}
+use Rattle.std.proofs.Common.{◌≡◌, ℕ, ◌+◌, ◌*◌, ◌^◌, ◌<◌, ◌≤◌, true, ◌&&◌, Ok, Err, eqb, ltb, leb, List, [], ◌∷◌, ◌++◌, length, get_or, take, drop, sym, refl, ap, ◌∙◌, subst, append_assoc, arith, lit≤, length-append, length-drop, drop-cons, ltb-false, ltb-true, le-ltb, lt-ltb}
 use native.Mathlib.Nat.{pow-le-pow_right}
 use lib.Seq.{take-append_seam}
 use Rattle.std.specs.Int.Digits.{AllBelowBase}
@@ -7,14 +7,14 @@ use Rattle.std.proofs.lemmas.List.{take-append-drop, length-take-le}
 use Rattle.std.proofs.lemmas.Bool.{cond_both, eqb-true, and_parts, leb-true, le-leb}
 use Rattle.key.specs.Figures.{in_bytes, number_at, is_hlr_id}
 use Rattle.key.proofs.Written.{length-figures, number_at-below, operand_stands, operand_reads}
-use Rattle.event.specs.Layout.{Event, provide_roaming_number, call_information, short_message_v2, short_message_v1, location_request, access, outgoing, registration, open_update, insert, end, reset, cancel, restart, form, InRange, ContactInRange, imsi_limit}
-use Rattle.event.specs.Decoding.{Reading, read, refused, found, contact_in_range, read_subscriber, read_contact, read_outgoing, read_insert, read_end, read_reset, read_coded, decoded, Laid, ExactlyLaid, DecodingLaw}
+use Rattle.event.specs.Layout.{Event, provide_roaming_number, call_information, short_message_v2, short_message_v1, location_request, access, outgoing, registration, open_update, insert, end, reset, cancel, restart, form, size, InRange, ContactInRange, imsi_limit}
+use Rattle.event.specs.Decoding.{Reading, found, contact_in_range, read_subscriber, read_contact, read_outgoing, read_insert, read_end, read_reset, read_coded, decoded, Laid, ExactlyLaid, DecodingLaw}
 use Rattle.event.proofs.Sizes.{size_is}
 
 -- what is read stands there
 abbrev Stands : List ℕ → Reading → Type 0
-Stands s (read e n) = Laid s e n
-Stands s (refused x) = Unit {0}
+Stands s (Ok (e, n)) = Laid s e n
+Stands s (Err x) = Unit {0}
 
 laid : (s : List ℕ) (e : Event) (rest : List ℕ) → s ≡ form e ++ rest → InRange e → Stands s (found e)
 laid s e rest begins range = record { rest = rest; begins = begins; in_range = range; long = size_is e }
@@ -202,13 +202,13 @@ reads_form restart s rest is range = coded s _ 14 is
 pub exactly_laid : (s : List ℕ) → AllBelowBase 256 s → ExactlyLaid s (decoded s)
 exactly_laid s ok e n = (
   λ h. subst (Stands s) h (stands s ok),
-  λ l. reads_form e s l.rest l.begins l.in_range ∙ ap (read e) (size_is e ∙ sym l.long),
+  λ l. reads_form e s l.rest l.begins l.in_range ∙ ap (λ n. Ok (e, n)) (size_is e ∙ sym l.long),
 )
 
 pub decoding_law_lem : DecodingLaw
 decoding_law_lem = record {
   exactly_laid = exactly_laid;
-  one_reading = λ e f r s le lf is. let one : found e ≡ found f = sym (reads_form e _ r refl le) ∙ reads_form f _ s is lf in cc;
-  rest_not_read = λ e rest l. reads_form e _ rest refl l ∙ ap (read e) (size_is e);
+  one_reading = λ e f r s le lf is. let one : found e ≡ found f = sym (reads_form e _ r refl le) ∙ reads_form f _ s is lf in let pair : ◌≡◌ {A = Event × ℕ} (e, size e) (f, size f) = cc in ap (λ (p : Event × ℕ). p.0) pair;
+  rest_not_read = λ e rest l. reads_form e _ rest refl l ∙ ap (λ n. Ok (e, n)) (size_is e);
   size_of_form = size_is;
 }

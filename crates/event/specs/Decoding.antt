@@ -1,5 +1,5 @@
 -- What the front of bytes is read as, or why it is refused, and the law over it. Assumes nothing.
-use Rattle.std.specs.Prelude.{◌≡◌, ℕ, ◌+◌, ◌*◌, Bool, cond, ◌&&◌, ◌↔◌, List, ◌++◌, length, take, drop, ◌==◌, nat_le, nat_lt, slice_index}
+use Rattle.std.specs.Prelude.{◌≡◌, ℕ, ◌+◌, ◌*◌, Bool, cond, ◌&&◌, ◌↔◌, List, ◌++◌, length, take, drop, Ok, Err, Result, ◌==◌, nat_le, nat_lt, slice_index}
 use Rattle.std.specs.Int.Digits.{AllBelowBase}
 use Rattle.key.specs.Figures.{number_at, is_hlr_id}
 use Rattle.key.specs.declared.refusal.Refusal.{Refusal}
@@ -7,20 +7,19 @@ use Rattle.key.specs.declared.refusal.Refusal.TheVariants.{UnknownCode, InputToo
 use Rattle.event.specs.Layout.{Event, provide_roaming_number, call_information, short_message_v2, short_message_v1, location_request, access, outgoing, registration, open_update, insert, end, reset, cancel, restart, form, size, InRange, imsi_limit}
 
 -- an event and how many bytes it took, or a refusal
-pub data Reading : Type 0 where
-  read : Event → ℕ → Reading
-  refused : Refusal → Reading
+abbrev pub Reading : Type 0
+Reading = Result (Event × ℕ) Refusal
 
 abbrev pub found : Event → Reading
-found e = read e (size e)
+found e = Ok (e, size e)
 
 -- the operands have to have n bytes
-abbrev pub needs_bytes : ℕ → List ℕ → Reading → Reading
-needs_bytes n ops r = cond (nat_lt (length ops) n) (refused InputTooShort) r
+abbrev pub needs_bytes : {T : Type 0} → ℕ → List ℕ → Result T Refusal → Result T Refusal
+needs_bytes n ops r = cond (nat_lt (length ops) n) (Err InputTooShort) r
 
 -- the operands read have to be in range
-abbrev pub in_range : Bool → Reading → Reading
-in_range ok r = cond ok r (refused OutOfRange)
+abbrev pub in_range : {T : Type 0} → Bool → Result T Refusal → Result T Refusal
+in_range ok r = cond ok r (Err OutOfRange)
 
 -- an event whose one operand is an IMSI
 abbrev pub read_subscriber : (ℕ → Event) → List ℕ → Reading
@@ -68,10 +67,10 @@ read_coded code ops =
     (cond (code == 12) (read_reset ops)
     (cond (code == 13) (read_subscriber cancel ops)
     (cond (code == 14) (found restart)
-    (refused UnknownCode))))))))))))))
+    (Err UnknownCode))))))))))))))
 
 unfoldable pub decoded : List ℕ → Reading
-decoded s = cond (nat_lt (length s) 1) (refused UnknownCode) (read_coded (slice_index s 0) (drop 1 s))
+decoded s = cond (nat_lt (length s) 1) (Err UnknownCode) (read_coded (slice_index s 0) (drop 1 s))
 
 -- the input begins with the n bytes of an event within its ranges, and anything may follow
 pub record Laid (s : List ℕ) (e : Event) (n : ℕ) : Type 0 where
@@ -82,10 +81,10 @@ pub record Laid (s : List ℕ) (e : Event) (n : ℕ) : Type 0 where
 
 -- an event of n bytes is read exactly where the input begins with that event's bytes
 abbrev pub ExactlyLaid : List ℕ → Reading → Type 0
-ExactlyLaid s r = (e : Event) (n : ℕ) → (r ≡ read e n) ↔ Laid s e n
+ExactlyLaid s r = (e : Event) (n : ℕ) → (r ≡ Ok (e, n)) ↔ Laid s e n
 
 pub record DecodingLaw : Type 0 where
   pub exactly_laid : (s : List ℕ) → AllBelowBase 256 s → ExactlyLaid s (decoded s)
   pub one_reading : (e f : Event) (r s : List ℕ) → InRange e → InRange f → form e ++ r ≡ form f ++ s → e ≡ f
-  pub rest_not_read : (e : Event) (rest : List ℕ) → InRange e → decoded (form e ++ rest) ≡ read e (length (form e))
+  pub rest_not_read : (e : Event) (rest : List ℕ) → InRange e → decoded (form e ++ rest) ≡ Ok (e, length (form e))
   pub size_of_form : (e : Event) → size e ≡ length (form e)

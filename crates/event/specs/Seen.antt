@@ -5,7 +5,7 @@ use Rattle.event.specs.declared.events.Event.{Event}
 use Rattle.event.specs.declared.events.Event.TheVariants.{ProvideRoamingNumber, CallInformation, ShortMessageV2, ShortMessageV1, LocationRequest, Access, Outgoing, Registration, OpenUpdate, Insert, End, Reset, Cancel, Restart}
 use Rattle.event.specs.declared.decoding.Decoded.{Decoded}
 use Rattle.event.specs.Layout as layout
-use Rattle.event.specs.Decoding.{Reading, read, refused}
+use Rattle.event.specs.Decoding.{Reading}
 
 abbrev pub as_event : Event → layout.Event
 as_event (ProvideRoamingNumber imsi) = layout.provide_roaming_number imsi
@@ -25,5 +25,5 @@ as_event Restart = layout.restart
 
 -- what decoding answered
 abbrev pub reading : Result Decoded Refusal → Reading
-reading (Ok d) = read (as_event d.event) d.length
-reading (Err e) = refused e
+reading (Ok d) = Ok (as_event d.event, d.length)
+reading (Err e) = Err e
