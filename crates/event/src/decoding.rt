@@ -9,7 +9,7 @@ use crate::operands::{read_contact, read_imsi, read_located};
 use key::{HlrId, Refusal, number_at};
 
 /// An event, and how many bytes it took.
-#[derive(Drop)]
+#[derive(Clone, Copy, PartialEq, Eq, Debug)]
 pub struct Decoded<'a> {
     pub event: Event<'a>,
     pub length: usize,

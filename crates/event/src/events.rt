@@ -8,7 +8,7 @@ pub const GROUP_LENGTH: usize = 11;
 
 /// What can happen at a visitor register. Operands are plain numbers, as they stand in the bytes, since a
 /// register takes events made by hand too, and refuses what is out of range; an Insert borrows its groups from the input.
-#[derive(Drop)]
+#[derive(Clone, Copy, PartialEq, Eq, Debug)]
 pub enum Event<'a> {
     /// The home register asks for a roaming number, for a call to the subscriber.
     ProvideRoamingNumber(u64),

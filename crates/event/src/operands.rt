@@ -8,7 +8,7 @@ use crate::events::Event;
 use key::{IMSI_LIMIT, Imsi, Refusal, number_at, read_key};
 
 /// What every contact of a handset begins with: who, whether authentication passed, through which exchange.
-#[derive(Clone, Copy)]
+#[derive(Clone, Copy, PartialEq, Eq, Debug)]
 pub struct Contact {
     pub imsi: u64,
     pub auth: u8,
@@ -16,7 +16,7 @@ pub struct Contact {
 }
 
 /// A contact that tells the location area too.
-#[derive(Clone, Copy)]
+#[derive(Clone, Copy, PartialEq, Eq, Debug)]
 pub struct Located {
     pub contact: Contact,
     pub area: u16,
