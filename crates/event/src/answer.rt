@@ -160,6 +160,7 @@ impl Answer {
     }
 
     /// The answer in bytes, numbers with the highest byte first.
+    #[tactic(auto, using(key::proofs::Written::four_bytes, key::proofs::Written::eight_bytes))]
     pub fn bytes(self) -> [u8; ANSWER_LENGTH]
         ensures { result ≡ answer_bytes self }
     {

@@ -148,9 +148,9 @@ impl fmt::Display for Answer {
         let handling = then_handling(self.handling);
         let ignored = then_ignored(self.ignored);
         write!(f, "{reply}{handling}{ignored}")?;
-        match self.opened {
-            Some(opened) => write!(f, ", {opened}"),
-            None => Ok(()),
+        if let Some(opened) = self.opened {
+            write!(f, ", {opened}")?;
         }
+        Ok(())
     }
 }

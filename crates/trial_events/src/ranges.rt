@@ -16,7 +16,7 @@ mod tests {
     }
 
     // The bytes of an event whose IMSI is that number.
-    fn about(rt: &HostRuntime, code: u8, imsi: u64) -> Result<Vec<u8>, AllocError> {
+    fn of_imsi(rt: &HostRuntime, code: u8, imsi: u64) -> Result<Vec<u8>, AllocError> {
         let mut event = sample(code).to_vec(rt.alloc())?;
         if event.len() >= 9 {
             event[1..9].copy_from_slice(&imsi.to_be_bytes());
@@ -28,14 +28,14 @@ mod tests {
     fn an_imsi_has_fifteen_digits(rt: HostRuntime) -> Result<(), Fail> {
         for code in [1, 2, 3, 4, 5, 6, 7, 8, 9, 13] {
             let length = sample(code).len();
-            assert_eq!(rt; told(&about(&rt, code, 0)?), Ok(length));
-            assert_eq!(rt; told(&about(&rt, code, 999_999_999_999_999)?), Ok(length));
+            assert_eq!(rt; told(&of_imsi(&rt, code, 0)?), Ok(length));
+            assert_eq!(rt; told(&of_imsi(&rt, code, 999_999_999_999_999)?), Ok(length));
             assert_eq!(rt;
-                told(&about(&rt, code, 1_000_000_000_000_000)?),
+                told(&of_imsi(&rt, code, 1_000_000_000_000_000)?),
                 Err(Refusal::OutOfRange)
             );
             assert_eq!(rt;
-                told(&about(&rt, code, u64::MAX)?),
+                told(&of_imsi(&rt, code, u64::MAX)?),
                 Err(Refusal::OutOfRange)
             );
         }
