@@ -137,24 +137,15 @@ impl From<Subject> for u64 {
     }
 }
 
-/// The kind opened and the dialogue's number as they stand in an answer's bytes.
-fn shown(opened: Option<Opened>) -> (u8, u32)
-    ensures kind { result.0 ≡ opened_number opened }
-    ensures dialogue { result.1 ≡ dialogue_shown opened }
-{
-    opened.map_or((0, 0), |opened| (opened.kind.into(), opened.dialogue))
-}
-
 impl Answer {
     /// The four bytes that an answer begins with.
     fn head(self) -> [u8; 4]
         ensures { result ≡ answer_head self }
     {
-        let (kind, _) = shown(self.opened);
         [
             self.reply.into(),
             self.handling.into(),
-            kind,
+            self.opened.map_or(0, |opened| opened.kind.into()),
             self.ignored.into(),
         ]
     }
@@ -164,7 +155,7 @@ impl Answer {
     pub fn bytes(self) -> [u8; ANSWER_LENGTH]
         ensures { result ≡ answer_bytes self }
     {
-        let (_, dialogue) = shown(self.opened);
+        let dialogue = self.opened.map_or(0, |opened| opened.dialogue);
         let mut bytes = [0; ANSWER_LENGTH];
         bytes[..4].copy_from_slice(&self.head());
         bytes[4..8].copy_from_slice(&dialogue.to_be_bytes());

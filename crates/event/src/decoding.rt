@@ -117,6 +117,7 @@ pub fn decode(input: &[u8]) -> Result<Decoded<'_>, Refusal>
 }
 
 /// Bytes have at most one reading, and it is the event whose form they begin with.
+#[tactic(auto, using(crate::proofs::Exact::decoding_law_lem))]
 pub fn decoding_law()
     ensures { DecodingLaw }
 {}
