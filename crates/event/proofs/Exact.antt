@@ -6,7 +6,7 @@ use Rattle.std.specs.Int.Digits.{AllBelowBase}
 use Rattle.std.proofs.lemmas.List.{take-append-drop, length-take-le}
 use Rattle.std.proofs.lemmas.Bool.{cond_both, eqb-true, and_parts, leb-true, le-leb}
 use Rattle.key.specs.Figures.{in_bytes, number_at, is_hlr_id}
-use Rattle.key.proofs.Written.{length-figures, number_at-below, operand_stands, operand_reads}
+use Rattle.key.proofs.Written.{length-figures, under_bytes, number_at-below, operand_stands, operand_reads}
 use Rattle.event.specs.Layout.{Event, provide_roaming_number, call_information, short_message_v2, short_message_v1, location_request, access, outgoing, registration, open_update, insert, end, reset, cancel, restart, form, size, InRange, ContactInRange, imsi_limit}
 use Rattle.event.specs.Decoding.{Reading, found, contact_in_range, read_subscriber, read_contact, read_outgoing, read_insert, read_end, read_reset, read_coded, decoded, Laid, ExactlyLaid, DecodingLaw}
 use Rattle.event.proofs.Sizes.{size_is}
@@ -204,6 +204,9 @@ exactly_laid s ok e n = (
   λ h. subst (Stands s) h (stands s ok),
   λ l. reads_form e s l.rest l.begins l.in_range ∙ ap (λ n. Ok (e, n)) (size_is e ∙ sym l.long),
 )
+
+pub laid_as_read : (s : List ℕ) (r : Reading) → r ≡ decoded s → ((i : ℕ) → get_or s i 0 < 256) → ExactlyLaid s r
+laid_as_read s r is bytes = subst (ExactlyLaid s) (sym is) (exactly_laid s (under_bytes s bytes))
 
 pub decoding_law_lem : DecodingLaw
 decoding_law_lem = record {
