@@ -5,7 +5,7 @@ ghost use Rattle.event.specs.Seen.{as_event};
 ghost use Rattle.event.specs.Operands.{imsi_read, contact_read, located_read};
 
 use crate::events::Event;
-use key::{IMSI_LIMIT, Imsi, Refusal, number_at, read_key};
+use key::{Imsi, Refusal, number_at, read_key};
 
 /// What every contact of a handset begins with: who, whether authentication passed, through which exchange.
 #[derive(Clone, Copy, PartialEq, Eq, Debug)]
@@ -67,7 +67,7 @@ impl Located {
 pub fn read_imsi(operands: &[u8]) -> Result<u64, Refusal>
     ensures { result ≡ imsi_read operands.now }
 {
-    read_key::<Imsi, { IMSI_LIMIT }>(operands).map(Imsi::number)
+    read_key::<Imsi>(operands).map(Imsi::number)
 }
 
 /// What the operands of a contact begin with.
