@@ -1,5 +1,5 @@
-pub mod Zeros
-pub mod Progress
 pub mod Dropped
 pub mod Listing
+pub mod Walks
+pub mod Sweep
 pub mod Refusing

@@ -1,6 +1,18 @@
 -- Subscriber data: which groups are known, and new ones over old ones. Assumes nothing.
-use Rattle.std.specs.Prelude.{Bool, true, false, ◌&&◌, Some, None, Option}
+use Rattle.std.specs.Prelude.{◌≡◌, ℕ, ◌<◌, ◌≤◌, Bool, true, false, cond, ◌&&◌, ◌==◌, Some, None, Ok, Err, Option, Result}
+use Rattle.key.specs.declared.refusal.Refusal.{Refusal}
+use Rattle.key.specs.declared.refusal.Refusal.TheVariants.{OutOfRange}
+use Rattle.dialogue.specs.declared.data.Status.{Status}
+use Rattle.dialogue.specs.declared.data.Status.TheVariants.{Granted, Barred}
 use Rattle.dialogue.specs.declared.data.SubscriberData.{SubscriberData}
+
+-- whether service is granted, by its number
+abbrev pub status : ℕ → Status
+status n = cond (n == 0) Granted Barred
+
+abbrev pub StatusSays : ℕ → Result Status Refusal → Type 0
+StatusSays n (Ok s) = (n < 2) × (s ≡ status n)
+StatusSays n (Err e) = (2 ≤ n) × (e ≡ OutOfRange)
 
 abbrev pub no_data : SubscriberData
 no_data = record { subscriber = None; services = None; barring = None; restricted = None }

@@ -1,5 +1,7 @@
 -- A dialogue's stage against what comes for it, case by case. Assumes nothing.
-use Rattle.std.specs.Prelude.{ℕ, ◌/◌, Bool, true, false, not, ◌&&◌, List, length, Some, None, Option, ◌==◌}
+use Rattle.std.specs.Prelude.{ℕ, Bool, true, false, not, ◌&&◌, List, Some, None, Ok, Err, Option, Result, ◌==◌, nat_le, codes}
+use Rattle.key.specs.declared.refusal.Refusal.{Refusal}
+use Rattle.key.specs.declared.refusal.Refusal.TheVariants.{DialogueNotOpen}
 use Rattle.event.specs.declared.answer.Kind.{Kind}
 use Rattle.event.specs.declared.answer.Kind.TheVariants.{RestoreData, UpdateLocation, StandAlone}
 use Rattle.dialogue.specs.declared.data.SubscriberData.{SubscriberData}
@@ -20,11 +22,11 @@ pub data Comes : Type 0 where
   insert : (groups : List ℕ) → Comes
   end : Comes
 
-abbrev pub comes : Coming → List ℕ → Comes
-comes Send groups = send
-comes Withdraw groups = withdraw
-comes Insert groups = insert groups
-comes End groups = end
+abbrev pub comes : Coming → Comes
+comes Send = send
+comes Withdraw = withdraw
+comes (Insert groups) = insert groups.now
+comes End = end
 
 abbrev pub is_gone : Stage → Bool
 is_gone Gone = true
@@ -32,34 +34,43 @@ is_gone Waiting = false
 is_gone Sent = false
 is_gone Rejected = false
 
+abbrev pub stage_text : Stage → List ℕ
+stage_text Gone = codes "gone"
+stage_text Waiting = codes "waiting"
+stage_text Sent = codes "sent"
+stage_text Rejected = codes "rejected"
+
 -- what a message of these bytes makes of a draft
 abbrev pub taken_into : List ℕ → SubscriberData → Option Progress
-taken_into s draft = message (length s / 11) s draft
+taken_into s draft = message s draft
 
--- what became of it
+-- what became of it, or that the dialogue was not at the stage for it
 abbrev pub message_met : Option Progress → Met
 message_met None = met.Rejected
 message_met (Some p) = met.Taken p.ignored
 
-abbrev pub stage_outcome : Stage → Comes → SubscriberData → Met
-stage_outcome Gone send draft = met.Refused
-stage_outcome Gone withdraw draft = met.Refused
-stage_outcome Gone (insert s) draft = met.Refused
-stage_outcome Gone end draft = met.Refused
-stage_outcome Waiting send draft = met.Sent
-stage_outcome Waiting withdraw draft = met.Withdrawn
-stage_outcome Waiting (insert s) draft = met.Refused
-stage_outcome Waiting end draft = met.Refused
-stage_outcome Sent send draft = met.Refused
-stage_outcome Sent withdraw draft = met.Refused
-stage_outcome Sent (insert s) draft = message_met (taken_into s draft)
-stage_outcome Sent end draft = met.Ended
-stage_outcome Rejected send draft = met.Refused
-stage_outcome Rejected withdraw draft = met.Refused
-stage_outcome Rejected (insert s) draft = met.Rejected
-stage_outcome Rejected end draft = met.Ended
+abbrev pub not_open : Result Met Refusal
+not_open = Err DialogueNotOpen
 
-abbrev pub outcome : Dialogue → Comes → Met
+abbrev pub stage_outcome : Stage → Comes → SubscriberData → Result Met Refusal
+stage_outcome Gone send draft = not_open
+stage_outcome Gone withdraw draft = not_open
+stage_outcome Gone (insert s) draft = not_open
+stage_outcome Gone end draft = not_open
+stage_outcome Waiting send draft = Ok met.Sent
+stage_outcome Waiting withdraw draft = Ok met.Withdrawn
+stage_outcome Waiting (insert s) draft = not_open
+stage_outcome Waiting end draft = not_open
+stage_outcome Sent send draft = not_open
+stage_outcome Sent withdraw draft = not_open
+stage_outcome Sent (insert s) draft = Ok (message_met (taken_into s draft))
+stage_outcome Sent end draft = Ok met.Ended
+stage_outcome Rejected send draft = not_open
+stage_outcome Rejected withdraw draft = not_open
+stage_outcome Rejected (insert s) draft = Ok met.Rejected
+stage_outcome Rejected end draft = Ok met.Ended
+
+abbrev pub outcome : Dialogue → Comes → Result Met Refusal
 outcome d c = stage_outcome d.stage c d.draft
 
 -- the stage after it
@@ -115,6 +126,10 @@ has_number n d = not (is_gone d.stage) && d.number == n
 
 abbrev pub is_on : ℕ → Kind → Dialogue → Bool
 is_on imsi kind d = not (is_gone d.stage) && (d.imsi == imsi && same_kind d.kind kind)
+
+-- it is open, and its number is n or above
+abbrev pub is_from : ℕ → Dialogue → Bool
+is_from n d = not (is_gone d.stage) && nat_le n d.number
 
 -- a dialogue as it opens: a stand-alone one needs no invoke, and starts as sent
 abbrev pub first_stage : Kind → Stage

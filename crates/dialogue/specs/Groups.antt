@@ -1,28 +1,24 @@
 -- What the eleven bytes of a group mean, and what is unexpected. Assumes nothing.
-use Rattle.std.specs.Prelude.{ℕ, Bool, true, cond, ◌&&◌, List, [], ◌∷◌, length, drop, Some, None, Option, ◌==◌, nat_lt, slice_index}
+use Rattle.std.specs.Prelude.{ℕ, Bool, cond, ◌&&◌, List, length, drop, Some, None, Option, ◌==◌, nat_lt, slice_index}
+use Rattle.std.specs.List.{list_all}
 use Rattle.key.specs.Figures.{number_at}
-use Rattle.dialogue.specs.declared.data.Status.{Status}
-use Rattle.dialogue.specs.declared.data.Status.TheVariants.{Granted, Barred}
 use Rattle.dialogue.specs.declared.data.SubscriberData.{SubscriberData}
+use Rattle.dialogue.specs.Data.{status}
 use Rattle.dialogue.specs.declared.group.Group.{Group}
 use Rattle.dialogue.specs.declared.group.Group.TheVariants.{Subscriber, Services, Supplementary, Barring, Restriction, Regional}
 
-unfoldable pub all_zero : List ℕ → Bool
-all_zero [] = true
-all_zero (b ∷ bs) = b == 0 && all_zero bs
+abbrev pub all_zero : List ℕ → Bool
+all_zero s = list_all (λ b. b == 0) s
 
 -- a group in range, or none
 abbrev pub expected : Bool → Group → Option Group
 expected ok g = cond ok (Some g) None
 
-abbrev pub status : ℕ → Status
-status n = cond (n == 0) Granted Barred
-
 -- A: MSISDN below 10^15, category, status 0 or 1
 abbrev pub subscriber_read : List ℕ → Option Group
 subscriber_read s =
-    expected (nat_lt (number_at 8 1 s) 1000000000000000 && nat_lt (number_at 1 10 s) 2)
-    (Subscriber (record { msisdn = number_at 8 1 s; category = number_at 1 9 s; status = status (number_at 1 10 s) }))
+    expected (nat_lt (number_at 8 1 s) 1000000000000000 && nat_lt (slice_index s 10) 2)
+    (Subscriber (record { msisdn = number_at 8 1 s; category = slice_index s 9; status = status (slice_index s 10) }))
 
 -- B: bearer services, teleservices, two zeros
 abbrev pub services_read : List ℕ → Option Group
@@ -34,7 +30,7 @@ barring_read s = expected (all_zero (drop 5 s)) (Barring (number_at 4 1 s))
 
 -- E: restriction 0 or 1, nine zeros
 abbrev pub restriction_read : List ℕ → Option Group
-restriction_read s = expected (nat_lt (number_at 1 1 s) 2 && all_zero (drop 2 s)) (Restriction (number_at 1 1 s == 1))
+restriction_read s = expected (nat_lt (slice_index s 1) 2 && all_zero (drop 2 s)) (Restriction (slice_index s 1 == 1))
 
 -- by its letter; C and F are not supported, and any other letter is unexpected
 abbrev pub lettered : ℕ → List ℕ → Option Group

@@ -1,23 +1,25 @@
 -- The open dialogues of a table, as a map from their numbers. Assumes nothing.
-use Rattle.std.specs.Prelude.{◌≡◌, ℕ, ◌+◌, ◌<◌, Bool, true, cond, not, ◌&&◌, ◌||◌, List, [], ◌∷◌, length, get_or, Some, None, Ok, Err, Option, Result, ◌==◌, nat_le, nat_lt, slice_index_or}
+use Rattle.std.specs.Prelude.{◌≡◌, ℕ, ◌+◌, ◌<◌, ◌≤◌, Bool, true, false, cond, not, ◌&&◌, List, [], ◌∷◌, length, Some, None, Ok, Err, Option, Result, ◌==◌, nat_lt}
+use Rattle.std.specs.List.{AllWithin, HoldsAt}
 use Rattle.key.specs.declared.refusal.Refusal.{Refusal}
-use Rattle.key.specs.declared.refusal.Refusal.TheVariants.{TooManyDialogues, NumbersUsedUp}
-use Rattle.store.specs.Model.{at, holds, with_entry, without}
+use Rattle.key.specs.declared.refusal.Refusal.TheVariants.{TooManyDialogues, NumbersUsedUp, DialogueNotOpen}
+use Rattle.store.specs.Model.{at, holds, with_entry, without, only}
 use Rattle.event.specs.declared.answer.Kind.{Kind}
-use Rattle.event.specs.declared.answer.Kind.TheVariants.{RestoreData}
-use Rattle.dialogue.specs.declared.row.Stage.TheVariants.{Gone}
 use Rattle.dialogue.specs.declared.row.Dialogue.{Dialogue}
 use Rattle.dialogue.specs.declared.row.Met.{Met}
-use Rattle.dialogue.specs.declared.row.Met.TheVariants.{Refused, Sent, Withdrawn, Taken, Rejected, Ended}
-use Rattle.dialogue.specs.Data.{no_data}
-use Rattle.dialogue.specs.Dialogues.{Comes, is_gone, same_kind, has_number, outcome, dialogue_after, opening}
+use Rattle.dialogue.specs.Dialogues.{Comes, is_gone, same_kind, has_number, not_open, outcome, dialogue_after, opening}
 
 -- open dialogues by their numbers, which rise
 abbrev pub Open : Type 0
 Open = List (ℕ × Dialogue)
 
-abbrev pub free_row : Dialogue
-free_row = record { number = 0; imsi = 0; kind = RestoreData; stage = Gone; draft = no_data }
+-- a table of them, and the last number used
+pub record Dialogues : Type 0 where
+  pub by_number : Open
+  pub last : ℕ
+
+abbrev pub none_open : ℕ → Dialogues
+none_open last = record { by_number = []; last = last }
 
 -- the open dialogues of the rows
 unfoldable pub listed : List Dialogue → Open
@@ -25,12 +27,12 @@ listed [] = []
 listed (d ∷ ds) = cond (is_gone d.stage) (listed ds) (with_entry (listed ds) d.number d)
 
 -- each number is given once, and none past the last; each is on an IMSI
-abbrev pub row_sound : Dialogue → List Dialogue → ℕ → Bool
-row_sound d ds last = nat_le d.number last && (not (holds (listed ds) d.number) && nat_lt d.imsi 1000000000000000)
+abbrev pub RowSound : Dialogue → List Dialogue → ℕ → Type 0
+RowSound d ds last = (d.number ≤ last) × (holds (listed ds) d.number ≡ false) × (d.imsi < 1000000000000000)
 
-unfoldable pub numbered : List Dialogue → ℕ → Bool
-numbered [] last = true
-numbered (d ∷ ds) last = (is_gone d.stage || row_sound d ds last) && numbered ds last
+abbrev pub Numbered : List Dialogue → ℕ → Type 0
+Numbered [] last = Unit {0}
+Numbered (d ∷ ds) last = (is_gone d.stage ≡ false → RowSound d ds last) × Numbered ds last
 
 -- what is found is on an IMSI
 abbrev pub OnImsi : Option Dialogue → Type 0
@@ -45,37 +47,35 @@ on imsi kind e = e.1.imsi == imsi && same_kind e.1.kind kind
 abbrev pub other_imsi : ℕ → ℕ × Dialogue → Bool
 other_imsi imsi e = not (e.1.imsi == imsi)
 
+-- the table without the dialogues of a subscriber
+abbrev pub without_imsi : Dialogues → ℕ → Dialogues
+without_imsi was imsi = record { by_number = only (other_imsi imsi) was.by_number; last = was.last }
+
 -- why no dialogue can open, where so many are open and the last number is `last`
 abbrev pub barred : ℕ → ℕ → Option Refusal
 barred count last = cond (nat_lt count 64) (cond (nat_lt last 4294967295) None (Some NumbersUsedUp)) (Some TooManyDialogues)
 
--- what opening a dialogue answers, and what it leaves
-abbrev pub OpenSays : Result ℕ Refusal → Open → ℕ → ℕ → Kind → Open → ℕ → Type 0
-OpenSays (Ok n) es last imsi kind after last' =
-    (barred (length es) last ≡ None) × (n ≡ last + 1) × (after ≡ with_entry es (last + 1) (opening (last + 1) imsi kind)) × (last' ≡ last + 1)
-OpenSays (Err e) es last imsi kind after last' = (barred (length es) last ≡ Some e) × (after ≡ es) × (last' ≡ last)
+-- the table with one dialogue more, which has the next number
+abbrev pub with_opened : Dialogues → ℕ → Kind → Dialogues
+with_opened was imsi kind = record { by_number = with_entry was.by_number (was.last + 1) (opening (was.last + 1) imsi kind); last = was.last + 1 }
 
--- a free row, where a number is left for it too
-abbrev pub FreeSays : Result ℕ Refusal → List Dialogue → ℕ → Type 0
-FreeSays (Ok i) ds last = (i < 64) × (is_gone (get_or ds i free_row).stage ≡ true) × (last < 4294967295) × (barred (length (listed ds)) last ≡ None)
-FreeSays (Err e) ds last = barred (length (listed ds)) last ≡ Some e
+-- what opening a dialogue answers, and what it leaves
+abbrev pub OpenSays : Result ℕ Refusal → Dialogues → ℕ → Kind → Dialogues → Type 0
+OpenSays (Ok n) was imsi kind now = (barred (length was.by_number) was.last ≡ None) × (n ≡ was.last + 1) × (now ≡ with_opened was imsi kind)
+OpenSays (Err e) was imsi kind now = (barred (length was.by_number) was.last ≡ Some e) × (now ≡ was)
 
 -- what became of the dialogue of a number, if one is open
-abbrev pub met_at : Option Dialogue → Comes → Met
-met_at None c = Refused
+abbrev pub met_at : Option Dialogue → Comes → Result Met Refusal
+met_at None c = not_open
 met_at (Some d) c = outcome d c
 
 -- the open dialogues after it; one that is gone is open no more
 abbrev pub kept_open : Open → ℕ → Dialogue → Open
 kept_open es n d = cond (is_gone d.stage) (without es n) (with_entry es n d)
 
-abbrev pub unless_refused : Met → Open → Open → Open
-unless_refused Refused es after = es
-unless_refused Sent es after = after
-unless_refused Withdrawn es after = after
-unless_refused (Taken ignored) es after = after
-unless_refused Rejected es after = after
-unless_refused Ended es after = after
+abbrev pub unless_refused : Result Met Refusal → Open → Open → Open
+unless_refused (Ok m) es after = after
+unless_refused (Err e) es after = es
 
 abbrev pub met_by : Open → ℕ → Option Dialogue → Comes → Open
 met_by es n None c = es
@@ -84,16 +84,21 @@ met_by es n (Some d) c = unless_refused (outcome d c) es (kept_open es n (dialog
 abbrev pub met_on : Open → ℕ → Comes → Open
 met_on es n c = met_by es n (at es n) c
 
--- the lesser of a number and the least of others
-abbrev pub least : ℕ → Option ℕ → Option ℕ
-least k None = Some k
-least k (Some j) = cond (nat_lt j k) (Some j) (Some k)
-
--- the first open number from n on, of a row and of others whose first is known
-abbrev pub nearer : ℕ → Dialogue → Option ℕ → Option ℕ
-nearer n d first = cond (is_gone d.stage) first (cond (nat_lt d.number n) first (least d.number first))
+-- the table after it
+abbrev pub with_met : Dialogues → ℕ → Comes → Dialogues
+with_met was n c = record { by_number = met_on was.by_number n c; last = was.last }
 
 -- where the dialogue of the number stands
-abbrev pub PlaceSays : Option ℕ → List Dialogue → ℕ → Type 0
-PlaceSays None ds n = at (listed ds) n ≡ None
-PlaceSays (Some i) ds n = (i < 64) × (has_number n (slice_index_or ds i free_row) ≡ true) × (at (listed ds) n ≡ Some (slice_index_or ds i free_row))
+abbrev pub PlaceSays : Result ℕ Refusal → List Dialogue → ℕ → Type 0
+PlaceSays (Ok i) ds n = (i < length ds) × HoldsAt (λ d. (has_number n d ≡ true) × (at (listed ds) n ≡ Some d)) ds i
+PlaceSays (Err e) ds n = (e ≡ DialogueNotOpen) × (at (listed ds) n ≡ None)
+
+-- a free row
+abbrev pub FreeSays : Result ℕ Refusal → List Dialogue → Type 0
+FreeSays (Ok i) ds = (i < length ds) × HoldsAt (λ d. is_gone d.stage ≡ true) ds i
+FreeSays (Err e) ds = (e ≡ TooManyDialogues) × AllWithin (λ d. is_gone d.stage ≡ false) ds 0 (length ds)
+
+-- the number after the last one
+abbrev pub NumberSays : Result ℕ Refusal → ℕ → Type 0
+NumberSays (Ok n) last = (last < 4294967295) × (n ≡ last + 1)
+NumberSays (Err e) last = (4294967295 ≤ last) × (e ≡ NumbersUsedUp)

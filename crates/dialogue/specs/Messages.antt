@@ -1,5 +1,6 @@
 -- What a message of groups does to a draft. Assumes nothing.
-use Rattle.std.specs.Prelude.{ℕ, zero, suc, ◌+◌, ◌*◌, true, false, List, take, drop, Some, None, Option}
+use Rattle.std.specs.Prelude.{ℕ, ◌/◌, true, false, List, length, Some, None, Option, fold}
+use Rattle.std.specs.Simd.{first_chunks}
 use Rattle.event.specs.declared.answer.Ignored.{Ignored}
 use Rattle.dialogue.specs.declared.data.SubscriberData.{SubscriberData}
 use Rattle.dialogue.specs.declared.group.Group.{Group}
@@ -24,18 +25,21 @@ with_ignored (Restriction r) i = i
 with_ignored Regional i = record { supplementary = i.supplementary; regional = true }
 
 -- one group more, unless it is unexpected
-abbrev pub one_more : Option Group → Progress → Option Progress
-one_more None p = None
-one_more (Some g) p = Some (record { draft = with_group g p.draft; ignored = with_ignored g p.ignored })
+abbrev pub with_more : Option Group → Progress → Option Progress
+with_more None p = None
+with_more (Some g) p = Some (record { draft = with_group g p.draft; ignored = with_ignored g p.ignored })
 
--- n groups, from the i-th on; an unexpected one rejects the message
-unfoldable pub groups_from : ℕ → ℕ → List ℕ → Option Progress → Option Progress
-groups_from zero i s p = p
-groups_from (suc n) i s None = None
-groups_from (suc n) i s (Some p) = groups_from n (i + 1) s (one_more (group_read (take 11 (drop (11 * i) s))) p)
+-- the next eleven bytes; an unexpected group rejects the message
+abbrev pub one_more : Option Progress → List ℕ → Option Progress
+one_more None bytes = None
+one_more (Some p) bytes = with_more (group_read bytes) p
 
-abbrev pub message : ℕ → List ℕ → SubscriberData → Option Progress
-message count s draft = groups_from count 0 s (Some (record { draft = draft; ignored = none_ignored }))
+-- the message, eleven bytes at a time
+abbrev pub groups : List ℕ → List (List ℕ)
+groups s = first_chunks 11 (length s / 11) s
+
+abbrev pub message : List ℕ → SubscriberData → Option Progress
+message s draft = fold one_more (Some (record { draft = draft; ignored = none_ignored })) (groups s)
 
 -- what the message passed over, where it is taken; the draft after it, which is the old one where it is not
 abbrev pub message_ignored : Option Progress → Option Ignored

@@ -1,16 +1,32 @@
 //! Subscriber data: what a home register tells of a subscriber, group by group.
 ghost use Rattle.std.specs.Prelude.{◌≡◌};
-ghost use Rattle.dialogue.specs.Data.{no_data, data_over, is_complete};
+ghost use Rattle.dialogue.specs.Data.{data_over, is_complete, StatusSays};
+
+use key::Refusal;
 
 /// Whether service is granted at all.
-#[derive(Clone, Copy)]
+#[derive(Clone, Copy, PartialEq, Eq, Debug)]
 pub enum Status {
     Granted,
     Barred,
 }
 
+impl TryFrom<u8> for Status {
+    type Error = Refusal;
+
+    ghost try_from_gives = { StatusSays };
+
+    fn try_from(number: u8) -> Result<Status, Refusal> {
+        match number {
+            0 => Ok(Status::Granted),
+            1 => Ok(Status::Barred),
+            _ => Err(Refusal::OutOfRange),
+        }
+    }
+}
+
 /// Group A: who the subscriber is.
-#[derive(Clone, Copy)]
+#[derive(Clone, Copy, PartialEq, Eq, Debug)]
 pub struct SubscriberInfo {
     pub msisdn: u64,
     pub category: u8,
@@ -18,14 +34,14 @@ pub struct SubscriberInfo {
 }
 
 /// Group B: the basic services subscribed to.
-#[derive(Clone, Copy)]
+#[derive(Clone, Copy, PartialEq, Eq, Debug)]
 pub struct BasicServices {
     pub bearer: u32,
     pub teleservice: u32,
 }
 
 /// The groups that are known: A, B, D (operator determined barring) and E (roaming restriction).
-#[derive(Clone, Copy)]
+#[derive(Clone, Copy, PartialEq, Eq, Debug, Default)]
 pub struct SubscriberData {
     pub subscriber: Option<SubscriberInfo>,
     pub services: Option<BasicServices>,
@@ -34,18 +50,6 @@ pub struct SubscriberData {
 }
 
 impl SubscriberData {
-    /// No group is known.
-    pub fn none() -> SubscriberData
-        ensures { result ≡ no_data }
-    {
-        SubscriberData {
-            subscriber: None,
-            services: None,
-            barring: None,
-            restricted: None,
-        }
-    }
-
     /// These groups, and the old ones where there is none of these.
     pub fn over(self, old: SubscriberData) -> SubscriberData
         ensures { result ≡ data_over self old }

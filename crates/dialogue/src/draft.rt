@@ -1,30 +1,23 @@
 //! A message's groups go into a draft, all of them or none.
-ghost use Rattle.std.specs.Prelude.{◌≡◌, ◌/◌, true, false, length, if◌then◌else◌};
+ghost use Rattle.std.specs.Prelude.{◌≡◌, unwrap_or};
 ghost use Rattle.dialogue.specs.Messages.{message, message_ignored, message_draft, with_ignored};
 
 use crate::data::SubscriberData;
 use crate::group::{Group, read_group};
 use event::{GROUP_LENGTH, Ignored};
 
-/// Puts the old draft back at its end, unless the whole message was taken.
+/// Puts the old draft back at its end. Once the whole message is taken there is none to put back.
 pub struct DraftGuard<'a> {
     draft: &'a mut SubscriberData,
-    old: SubscriberData,
-    taken: bool,
+    old: Option<SubscriberData>,
 }
 
 impl Drop for DraftGuard<'_> {
     fn drop(self)
-        ensures { self.exit.0.now ≡ (if self.entry.taken then self.entry.draft.now else self.entry.old) }
+        ensures { self.exit.0.now ≡ unwrap_or self.entry.old self.entry.draft.now }
     {
-        if !self.taken {
-            *self.draft = self.old;
-        }
-        let DraftGuard {
-            draft: _,
-            old: _,
-            taken: _,
-        } = self;
+        let DraftGuard { draft, old } = self;
+        *draft = old.unwrap_or(*draft);
     }
 }
 
@@ -48,23 +41,18 @@ fn noted(ignored: Ignored, group: Group) -> Ignored
 /// Takes the groups into the draft and tells which were passed over; an unexpected one rejects the message, and
 /// the draft is then as it was.
 pub fn take_message(draft: &mut SubscriberData, groups: &[u8]) -> Option<Ignored>
-    ensures answer { result ≡ message_ignored (message (length groups.now / 11) groups.now draft.old) }
-    ensures draft { draft.new ≡ message_draft (message (length groups.now / 11) groups.now draft.old) draft.old }
+    ensures answer { result ≡ message_ignored (message groups.now draft.old) }
+    ensures draft { draft.new ≡ message_draft (message groups.now draft.old) draft.old }
 {
-    let old = *draft;
-    let count = groups.len() / GROUP_LENGTH;
-    let mut guard = DraftGuard {
-        draft,
-        old,
-        taken: false,
-    };
+    let old = Some(*draft);
+    let mut guard = DraftGuard { draft, old };
     let mut ignored = Ignored::NONE;
-    for i in 0..count {
-        let at = GROUP_LENGTH * i;
-        let group = read_group(&groups[at..at + GROUP_LENGTH])?;
+    let (whole, _) = groups.as_chunks::<GROUP_LENGTH>();
+    for bytes in whole {
+        let group = read_group(bytes)?;
         guard.draft.put(group);
         ignored = noted(ignored, group);
     }
-    guard.taken = true;
+    guard.old = None;
     Some(ignored)
 }

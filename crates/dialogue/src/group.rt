@@ -1,5 +1,5 @@
 //! One group of subscriber data, from its eleven bytes.
-ghost use Rattle.std.specs.Prelude.{◌≡◌, length, drop};
+ghost use Rattle.std.specs.Prelude.{◌≡◌};
 ghost use Rattle.dialogue.specs.Groups.{all_zero, group_read, subscriber_read, services_read, barring_read, restriction_read, with_group};
 
 use crate::data::{BasicServices, Status, SubscriberData, SubscriberInfo};
@@ -7,7 +7,7 @@ use event::GROUP_LENGTH;
 use key::{IMSI_LIMIT, number_at};
 
 /// A group that is expected. Two are not supported here and carry nothing.
-#[derive(Clone, Copy)]
+#[derive(Clone, Copy, PartialEq, Eq, Debug)]
 pub enum Group {
     Subscriber(SubscriberInfo),
     Services(BasicServices),
@@ -17,86 +17,57 @@ pub enum Group {
     Regional,
 }
 
-/// Whether all bytes from a place on are zero, as where a group's value has no more to say.
-fn all_zero(bytes: &[u8], from: usize) -> bool
-    ensures { result ≡ all_zero (drop from bytes.now) }
+/// Whether all bytes are zero, as where a group's value has no more to say.
+fn all_zero(bytes: &[u8]) -> bool
+    ensures { result ≡ all_zero bytes.now }
 {
-    for i in from..bytes.len() {
-        if bytes[i] != 0 {
-            return false;
-        }
-    }
-    true
+    bytes.iter().all(|byte| *byte == 0)
 }
 
-fn read_subscriber(bytes: &[u8]) -> Option<Group>
-    requires { length bytes.now ≡ 11 }
+fn read_subscriber(bytes: &[u8; GROUP_LENGTH]) -> Option<Group>
     ensures { result ≡ subscriber_read bytes.now }
 {
     let msisdn = number_at(bytes, 1, 8);
-    let category = number_at(bytes, 9, 1) as u8;
-    let status = match number_at(bytes, 10, 1) {
-        0 => Status::Granted,
-        1 => Status::Barred,
-        _ => return None,
-    };
-    if msisdn >= IMSI_LIMIT {
-        return None;
-    }
-    Some(Group::Subscriber(SubscriberInfo {
+    let category = bytes[9];
+    let status = Status::try_from(bytes[10]).ok()?;
+    (msisdn < IMSI_LIMIT).then_some(Group::Subscriber(SubscriberInfo {
         msisdn,
         category,
         status,
     }))
 }
 
-fn read_services(bytes: &[u8]) -> Option<Group>
-    requires { length bytes.now ≡ 11 }
+fn read_services(bytes: &[u8; GROUP_LENGTH]) -> Option<Group>
     ensures { result ≡ services_read bytes.now }
 {
     let bearer = number_at(bytes, 1, 4) as u32;
     let teleservice = number_at(bytes, 5, 4) as u32;
-    if all_zero(bytes, 9) {
-        Some(Group::Services(BasicServices {
-            bearer,
-            teleservice,
-        }))
-    } else {
-        None
-    }
+    all_zero(&bytes[9..]).then_some(Group::Services(BasicServices {
+        bearer,
+        teleservice,
+    }))
 }
 
-fn read_barring(bytes: &[u8]) -> Option<Group>
-    requires { length bytes.now ≡ 11 }
+fn read_barring(bytes: &[u8; GROUP_LENGTH]) -> Option<Group>
     ensures { result ≡ barring_read bytes.now }
 {
     let barring = number_at(bytes, 1, 4) as u32;
-    if all_zero(bytes, 5) {
-        Some(Group::Barring(barring))
-    } else {
-        None
-    }
+    all_zero(&bytes[5..]).then_some(Group::Barring(barring))
 }
 
-fn read_restriction(bytes: &[u8]) -> Option<Group>
-    requires { length bytes.now ≡ 11 }
+fn read_restriction(bytes: &[u8; GROUP_LENGTH]) -> Option<Group>
     ensures { result ≡ restriction_read bytes.now }
 {
-    let restriction = number_at(bytes, 1, 1);
-    if restriction < 2 && all_zero(bytes, 2) {
-        Some(Group::Restriction(restriction == 1))
-    } else {
-        None
-    }
+    let restriction = bytes[1];
+    let expected = restriction < 2 && all_zero(&bytes[2..]);
+    expected.then_some(Group::Restriction(restriction == 1))
 }
 
 /// The group that the bytes are, or none where the letter or the value is unexpected.
 pub fn read_group(bytes: &[u8]) -> Option<Group>
     ensures { result ≡ group_read bytes.now }
 {
-    if bytes.len() != GROUP_LENGTH {
-        return None;
-    }
+    let bytes: &[u8; GROUP_LENGTH] = bytes.try_into().ok()?;
     match bytes[0] {
         b'A' => read_subscriber(bytes),
         b'B' => read_services(bytes),

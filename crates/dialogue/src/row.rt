@@ -1,13 +1,15 @@
 //! A dialogue, and what becomes of it when something comes for it.
-ghost use Rattle.std.specs.Prelude.{◌≡◌, not};
-ghost use Rattle.dialogue.specs.Dialogues.{is_gone, same_kind, comes, outcome, dialogue_after, has_number, is_on};
+ghost use Rattle.std.specs.Prelude.{◌≡◌, Some};
+ghost use Rattle.dialogue.specs.Dialogues.{comes, outcome, dialogue_after, has_number, is_on, stage_text};
 
 use crate::data::SubscriberData;
 use crate::draft::take_message;
 use event::{Ignored, Kind};
+use key::Refusal;
+use std::fmt;
 
 /// How far a dialogue has come. Where it is gone, its row is free.
-#[derive(Clone, Copy)]
+#[derive(Clone, Copy, PartialEq, Eq, Debug)]
 pub enum Stage {
     Gone,
     /// Opened; its invoke is not sent yet.
@@ -19,7 +21,7 @@ pub enum Stage {
 }
 
 /// One dialogue with a home register.
-#[derive(Clone, Copy)]
+#[derive(Clone, Copy, PartialEq, Eq, Debug)]
 pub struct Dialogue {
     pub number: u32,
     pub imsi: u64,
@@ -30,22 +32,20 @@ pub struct Dialogue {
 }
 
 /// What comes for a dialogue.
-#[derive(Clone, Copy)]
-pub enum Coming {
+#[derive(Clone, Copy, PartialEq, Eq, Debug)]
+pub enum Coming<'a> {
     /// Its invoke is sent.
     Send,
     /// Its invoke is withdrawn.
     Withdraw,
-    /// A message with groups of subscriber data.
-    Insert,
+    /// A message with these groups of subscriber data.
+    Insert(&'a [u8]),
     End,
 }
 
-/// What became of it.
-#[derive(Clone, Copy)]
+/// What became of it, where the dialogue was at the stage for it.
+#[derive(Clone, Copy, PartialEq, Eq, Debug)]
 pub enum Met {
-    /// Nothing: the dialogue was not at the stage for it.
-    Refused,
     Sent,
     Withdrawn,
     /// The whole message was taken, and these groups were passed over.
@@ -54,45 +54,47 @@ pub enum Met {
     Ended,
 }
 
-impl Stage {
-    pub fn is_gone(self) -> bool
-        ensures { result ≡ is_gone self }
-    {
-        match self {
-            Stage::Gone => true,
-            _ => false,
-        }
+impl fmt::Display for Stage {
+    ghost output = { λ s. Some (stage_text s) };
+
+    fn fmt<W: fmt::Write>(&self, f: &mut fmt::Formatter<W>) -> fmt::Result {
+        f.write_str(match self {
+            Stage::Gone => "gone",
+            Stage::Waiting => "waiting",
+            Stage::Sent => "sent",
+            Stage::Rejected => "rejected",
+        })
     }
 }
 
 impl Dialogue {
-    /// The stage is matched with what comes here, and nowhere else. Only a message has groups.
-    pub fn meet(&mut self, coming: Coming, groups: &[u8]) -> Met
-        ensures answer { result ≡ outcome self.old (comes coming groups.now) }
-        ensures dialogue { self.new ≡ dialogue_after self.old (comes coming groups.now) }
+    /// The stage is matched with what comes here, and nowhere else.
+    pub fn meet(&mut self, coming: Coming) -> Result<Met, Refusal>
+        ensures answer { result ≡ outcome self.old (comes coming.entry) }
+        ensures dialogue { self.new ≡ dialogue_after self.old (comes coming.entry) }
     {
         match (self.stage, coming) {
             (Stage::Waiting, Coming::Send) => {
                 self.stage = Stage::Sent;
-                Met::Sent
+                Ok(Met::Sent)
             }
             (Stage::Waiting, Coming::Withdraw) => {
                 self.stage = Stage::Gone;
-                Met::Withdrawn
+                Ok(Met::Withdrawn)
             }
-            (Stage::Sent, Coming::Insert) => match take_message(&mut self.draft, groups) {
-                Some(ignored) => Met::Taken(ignored),
+            (Stage::Sent, Coming::Insert(groups)) => match take_message(&mut self.draft, groups) {
+                Some(ignored) => Ok(Met::Taken(ignored)),
                 None => {
                     self.stage = Stage::Rejected;
-                    Met::Rejected
+                    Ok(Met::Rejected)
                 }
             },
-            (Stage::Rejected, Coming::Insert) => Met::Rejected,
-            (Stage::Sent, Coming::End) | (Stage::Rejected, Coming::End) => {
+            (Stage::Rejected, Coming::Insert(_)) => Ok(Met::Rejected),
+            (Stage::Sent | Stage::Rejected, Coming::End) => {
                 self.stage = Stage::Gone;
-                Met::Ended
+                Ok(Met::Ended)
             }
-            (_, _) => Met::Refused,
+            _ => Err(Refusal::DialogueNotOpen),
         }
     }
 
@@ -100,24 +102,13 @@ impl Dialogue {
     pub fn has_number(self, number: u32) -> bool
         ensures { result ≡ has_number number self }
     {
-        !self.stage.is_gone() && self.number == number
+        self.stage != Stage::Gone && self.number == number
     }
 
     /// Whether it is open for the subscriber and of that kind.
     pub fn is_on(self, imsi: u64, kind: Kind) -> bool
         ensures { result ≡ is_on imsi kind self }
     {
-        !self.stage.is_gone() && self.imsi == imsi && same_kind(self.kind, kind)
-    }
-}
-
-fn same_kind(a: Kind, b: Kind) -> bool
-    ensures { result ≡ same_kind a b }
-{
-    match (a, b) {
-        (Kind::RestoreData, Kind::RestoreData)
-        | (Kind::UpdateLocation, Kind::UpdateLocation)
-        | (Kind::StandAlone, Kind::StandAlone) => true,
-        _ => false,
+        self.stage != Stage::Gone && self.imsi == imsi && self.kind == kind
     }
 }

@@ -1,34 +1,25 @@
 //! Closing dialogues with their subscriber, or all of them.
-ghost use Rattle.std.specs.Prelude.{◌≡◌, []};
-ghost use Rattle.store.specs.Model.{only};
-ghost use Rattle.dialogue.specs.Listed.{listed, other_imsi};
+ghost use Rattle.std.specs.Prelude.{◌≡◌};
+ghost use Rattle.dialogue.specs.Listed.{none_open, without_imsi};
 
 use crate::row::Stage;
 use crate::table::Table;
-use crate::table::opening::FREE;
 
 impl Table {
     /// Closes all dialogues. Numbers go on.
     pub fn clear(&mut self)
-        ensures dialogues { listed self.new.rows ≡ [] }
-        ensures last { self.new.last ≡ self.old.last }
+        ensures { self.new ≡ none_open self.old.last }
     {
-        let last = self.last;
-        *self = Table {
-            rows: [FREE; 64],
-            last,
-        };
+        *self = Table::new(self.last);
     }
 
     /// Closes the subscriber's dialogues.
     pub fn close_of(&mut self, imsi: u64)
-        ensures dialogues { listed self.new.rows ≡ only (other_imsi imsi) (listed self.old.rows) }
-        ensures last { self.new.last ≡ self.old.last }
+        ensures { self.new ≡ without_imsi self.old imsi }
     {
-        for i in 0..64 {
-            let row = self.rows[i];
+        for row in &mut self.rows {
             if row.imsi == imsi {
-                self.rows[i].stage = Stage::Gone;
+                row.stage = Stage::Gone;
             }
         }
     }

@@ -1,7 +1,7 @@
 //! A new table, and opening a dialogue in it.
-ghost use Rattle.std.specs.Prelude.{◌≡◌, ◌+◌, []};
-ghost use Rattle.dialogue.specs.Dialogues.{first_stage};
-ghost use Rattle.dialogue.specs.Listed.{listed, free_row, OpenSays, FreeSays};
+ghost use Rattle.std.specs.Prelude.{◌≡◌};
+ghost use Rattle.dialogue.specs.Dialogues.{first_stage, opening};
+ghost use Rattle.dialogue.specs.Listed.{none_open, OpenSays, FreeSays, NumberSays};
 
 use crate::data::SubscriberData;
 use crate::row::{Dialogue, Stage};
@@ -10,7 +10,7 @@ use event::Kind;
 use key::{Imsi, Refusal};
 
 /// A row that no dialogue has.
-pub const FREE: Dialogue = Dialogue {
+const FREE: Dialogue = Dialogue {
     number: 0,
     imsi: 0,
     kind: Kind::RestoreData,
@@ -33,11 +33,42 @@ fn first_stage(kind: Kind) -> Stage
     }
 }
 
+impl Dialogue {
+    /// A dialogue as it opens.
+    fn opening(number: u32, imsi: Imsi, kind: Kind) -> Dialogue
+        ensures { result ≡ opening number imsi.number kind }
+    {
+        Dialogue {
+            number,
+            imsi: imsi.number(),
+            kind,
+            stage: first_stage(kind),
+            draft: SubscriberData::default(),
+        }
+    }
+}
+
+/// A row that no dialogue has yet.
+fn free(rows: &[Dialogue; 64]) -> Result<usize, Refusal>
+    ensures { FreeSays result rows.now }
+{
+    rows.iter()
+        .position(|row| row.stage == Stage::Gone)
+        .ok_or(Refusal::TooManyDialogues)
+}
+
+/// The number of the next dialogue.
+fn number_after(last: u32) -> Result<u32, Refusal>
+    ensures { NumberSays result last }
+{
+    last.checked_add(1).ok_or(Refusal::NumbersUsedUp)
+}
+
 impl Table {
     /// No dialogue is open, and numbers go on after the last one used.
+    #[tactic(auto, unfolding(crate::specs::Listed::listed))]
     pub fn new(last: u32) -> Table
-        ensures dialogues { listed result.rows ≡ [] }
-        ensures last { result.last ≡ last }
+        ensures { result ≡ none_open last }
     {
         Table {
             rows: [FREE; 64],
@@ -45,35 +76,13 @@ impl Table {
         }
     }
 
-    /// A free row, where a number is left for it too.
-    fn free(&self) -> Result<usize, Refusal>
-        ensures { FreeSays result self.now.rows self.now.last }
-    {
-        for i in 0..64 {
-            let row = self.rows[i];
-            if row.stage.is_gone() {
-                if self.last == u32::MAX {
-                    return Err(Refusal::NumbersUsedUp);
-                }
-                return Ok(i);
-            }
-        }
-        Err(Refusal::TooManyDialogues)
-    }
-
     /// Opens a dialogue and answers its number, or refuses and leaves all as it was.
     pub fn open(&mut self, imsi: Imsi, kind: Kind) -> Result<u32, Refusal>
-        ensures { OpenSays result (listed self.old.rows) self.old.last imsi.number kind (listed self.new.rows) self.new.last }
+        ensures { OpenSays result self.old imsi.number kind self.new }
     {
-        let i = self.free()?;
-        let number = self.last + 1;
-        self.rows[i] = Dialogue {
-            number,
-            imsi: imsi.number(),
-            kind,
-            stage: first_stage(kind),
-            draft: SubscriberData::none(),
-        };
+        let i = free(&self.rows)?;
+        let number = number_after(self.last)?;
+        self.rows[i] = Dialogue::opening(number, imsi, kind);
         self.last = number;
         Ok(number)
     }

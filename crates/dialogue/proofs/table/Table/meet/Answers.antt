@@ -1,32 +1,47 @@
-use Rattle.std.proofs.Common.{◌<◌, length, get_or, sym, refl, ap, ◌∙◌, arith, length-set}
+use Rattle.std.proofs.Common.{get_or, Err, sym, refl, ap, ◌∙◌, length-set}
+use Rattle.std.proofs.lemmas.Result.{err_from_is_err_and}
+use Rattle.store.specs.Model.{at}
 use Rattle.dialogue.specs.Dialogues.{comes}
-use Rattle.dialogue.specs.Listed.{free_row, listed, kept_open, met_at, met_by}
-use Rattle.dialogue.proofs.Listing.{num_of, num_in, num_put, listed_put, listed-rises, is_live}
+use Rattle.dialogue.specs.Listed.{listed, kept_open, met_at, met_by, with_met}
+use Rattle.dialogue.proofs.Listing.{free_row, numbered_put, listed_put, listed-rises, is_live}
 use Rattle.dialogue.proofs.Refusing.{kept-unless_refused}
 use Rattle.dialogue.proofs.table.Table.meet.Goals as goal
 
+pub returns-in_err-i : goal.returns-in_err-i
+returns-in_err-i c =
+    let p = err_from_is_err_and c.from_residual.result c.from_residual.ensures.1 in
+    let n = c.args.number in
+    let none = sym (ap (λ t. at t.by_number n) c.self.view_is) ∙ c.in_err-i.ensures.1 in
+    record {
+      answer = rw (p.1, p.2, none) (ap Err c.in_err-i.ensures.0);
+      after = rw none refl;
+    }
+
 pub invariant_of-self : goal.invariant_of-self
 invariant_of-self c =
-    let t = c.args.self.now in
-    let at = c.in-Some.ensures in
-    let r = get_or t.rows c.in-Some.i free_row in
-    let live = is_live c.args.number r at.1 in
+    let t = c.self.inside in
+    let i = c.in_ok-i.i in
+    let at = c.in_ok-i.ensures.1 free_row in
+    let live = is_live c.args.number (get_or t.rows i free_row) at.0 in
     let is = c.meet.ensures.dialogue in
-    let within : c.in-Some.i < length t.rows = omega (arith, at.0, t.size) in
-    record { size = simp length-set t.size; sound = num_in _ _ (num_put c.meet.new.self t.rows t.last c.in-Some.i (num_of t.rows t.last t.sound) within live.0 (ap (λ d. d.number) is) (ap (λ d. d.imsi) is)) }
+    (simp length-set c.self.invariant.0, numbered_put c.meet.new.self t.rows t.last i c.self.invariant.1 c.in_ok-i.ensures.0 live.0 (ap (λ d. d.number) is) (ap (λ d. d.imsi) is))
 
-pub returns-in-Some : goal.returns-in-Some
-returns-in-Some c =
-    let t = c.args.self.now in
-    let at = c.in-Some.ensures in
-    let r = get_or t.rows c.in-Some.i free_row in
-    let live = is_live c.args.number r at.1 in
+pub returns : goal.returns
+returns c =
+    let t = c.self.inside in
+    let n = c.args.number in
+    let what = comes c.args.coming in
+    let i = c.in_ok-i.i in
+    let r = get_or t.rows i free_row in
+    let found = c.in_ok-i.ensures.1 free_row in
+    let live = is_live n r found.0 in
     let is = c.meet.ensures.dialogue in
     let number = ap (λ d. d.number) is in
-    let within : c.in-Some.i < length t.rows = omega (arith, at.0, t.size) in
-    let put = listed_put c.meet.new.self t.rows t.last c.in-Some.i (num_of t.rows t.last t.sound) within live.0 number in
+    let put = listed_put c.meet.new.self t.rows t.last i c.self.invariant.1 c.in_ok-i.ensures.0 live.0 number in
+    let after =
+    put ∙ ap (λ k. kept_open (listed t.rows) k c.meet.new.self) (number ∙ live.1) ∙ ap (kept_open (listed t.rows) n) is ∙ kept-unless_refused (listed t.rows) n r what (listed-rises t.rows) found.1 live.0 ∙ sym (ap (λ d. met_by (listed t.rows) n d what) found.1)
+    in
     record {
-      answer = c.meet.ensures.answer ∙ sym (ap (λ d. met_at d (comes c.args.coming c.args.groups.now)) at.2);
-      dialogues = put ∙ ap (λ n. kept_open (listed t.rows) n c.meet.new.self) (number ∙ live.1) ∙ ap (kept_open (listed t.rows) c.args.number) is ∙ kept-unless_refused (listed t.rows) c.args.number r (comes c.args.coming c.args.groups.now) (listed-rises t.rows) at.2 live.0 ∙ sym (ap (λ d. met_by (listed t.rows) c.args.number d (comes c.args.coming c.args.groups.now)) at.2);
-      last = refl;
+      answer = c.meet.ensures.answer ∙ sym (ap (λ d. met_at d what) found.1) ∙ ap (λ v. met_at (at v.by_number n) what) c.self.view_is;
+      after = ap (λ es. record { by_number = es; last = t.last }) after ∙ ap (λ v. with_met v n what) c.self.view_is;
     }

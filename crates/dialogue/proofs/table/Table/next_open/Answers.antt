@@ -1,29 +1,22 @@
-use Rattle.std.proofs.Common.{◌≡◌, ◌+◌, ◌-◌, ◌<◌, length, get_or, drop, sym, ap, ◌∙◌, arith}
+use Rattle.std.proofs.Common.{◌≡◌, min, map, sym, ap, ◌∙◌, rules, tests}
+use Rattle.std.specs.List.{filter, reduce}
+use Rattle.std.specs.Option.{option_map}
+use Rattle.std.proofs.lemmas.Iterator.{YieldsList-from_slice, YieldsList-from_map}
+use Rattle.std.proofs.lemmas.Iterator.Consumers.{YieldsList-at, YieldsList-from_filter, min_from_yields_List}
+use Rattle.std.proofs.lemmas.Iterator.Adapters.{option_map_id}
 use Rattle.store.specs.Model.{first_from, start}
-use Rattle.dialogue.specs.Listed.{listed, free_row, nearer}
-use Rattle.dialogue.proofs.Listing.{listed_next, listed-end, first_more}
+use Rattle.dialogue.specs.Dialogues.{is_from}
+use Rattle.dialogue.proofs.Walks.{first_of}
 use Rattle.dialogue.proofs.table.Table.next_open.Goals as goal
 
-pub loop-i-init : goal.loop-i-init
-unfolding first_from
-loop-i-init c =
-    let t = c.args.self.now in
-    (omega arith, sym (ap (λ es. first_from es (start c.args.above)) (listed-end t.rows 64 (omega (arith, t.size)))))
-
-pub loop-i-preserved : goal.loop-i-preserved
-loop-i-preserved c =
-    let t = c.args.self.now in
-    let rs = t.rows in
+pub returns : goal.returns
+returns c =
+    let rows = c.self.inside.rows in
     let n = start c.args.above in
-    let j = c.loop-i.i - 1 in
-    let low = c.loop-i.invariant.0 in
-    let some = c.loop-i-test.true in
-    let behind : c.loop-i.i ≡ j + 1 = omega arith in
-    let within : j < length rs = omega (arith, t.size) in
-    let row = get_or rs j free_row in (
-      omega arith,
-      c.nearer-best.ensures
-          ∙ ap (nearer n row) (c.loop-i.invariant.1 ∙ ap (λ i. first_from (listed (drop i rs)) n) behind)
-          ∙ sym (first_more row (drop (j + 1) rs) n)
-          ∙ sym (ap (λ es. first_from es n) (listed_next rs j within)),
+    let least : option_map (λ k. k) c.min.result ≡ reduce min (map (λ d. d.number) (filter (is_from n) rows)) =
+    min_from_yields_List c.map.result c.min.result c.min.ensures.ran (
+    YieldsList-from_map _ (λ d. d.number) (YieldsList-at c.map.ensures.source (YieldsList-from_filter _ (is_from n) (YieldsList-at c.filter.ensures.source (YieldsList-from_slice rows cc)) c.filter.ensures.closure (λ x b q k. search (rules, tests)))) c.map.ensures.closure (λ x r q k. search rules)
     )
+    in
+    let walked : c.min.result ≡ reduce min (map (λ d. d.number) (filter (is_from n) rows)) = sym (option_map_id c.min.result) ∙ least in
+    walked ∙ sym (first_of rows n) ∙ ap (λ t. first_from t.by_number n) c.self.view_is

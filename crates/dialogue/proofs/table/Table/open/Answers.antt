@@ -1,11 +1,14 @@
-use Rattle.std.proofs.Common.{◌≡◌, ◌+◌, ◌<◌, false, length, refl, ap, ◌∙◌, arith, length-set}
+use Rattle.std.proofs.Common.{◌≡◌, ℕ, ◌+◌, ◌<◌, ◌≤◌, false, length, None, Some, refl, sym, ap, ◌∙◌, arith, length-set, le-ltb, lt-ltb}
+use Rattle.std.proofs.lemmas.Result.{err_from_is_err_and}
+use Rattle.key.specs.declared.refusal.Refusal.TheVariants.{NumbersUsedUp}
 use Rattle.event.specs.declared.answer.Kind.{Kind}
 use Rattle.event.specs.declared.answer.Kind.TheVariants.{RestoreData, UpdateLocation, StandAlone}
 use Rattle.store.specs.Model.{with_entry}
 use Rattle.dialogue.specs.declared.row.Dialogue.{Dialogue}
 use Rattle.dialogue.specs.Dialogues.{is_gone, first_stage, opening}
-use Rattle.dialogue.specs.Listed.{listed}
-use Rattle.dialogue.proofs.Listing.{num_of, num_in, num_set, listed-set, above}
+use Rattle.dialogue.specs.Listed.{Dialogues, listed, barred, with_opened}
+use Rattle.dialogue.proofs.Listing.{free_row, numbered-set, listed-set, above, fewer}
+use Rattle.dialogue.proofs.Walks.{full}
 use Rattle.dialogue.proofs.table.Table.open.Goals as goal
 
 opens_live : (kind : Kind) → is_gone (first_stage kind) ≡ false
@@ -13,21 +16,52 @@ opens_live RestoreData = refl
 opens_live UpdateLocation = refl
 opens_live StandAlone = refl
 
+used_up : (count last : ℕ) → count < 64 → 4294967295 ≤ last → barred count last ≡ Some NumbersUsedUp
+used_up count last few all = rw (lt-ltb count 64 few, le-ltb last 4294967295 all)
+
+open_to : (count last : ℕ) → count < 64 → last < 4294967295 → barred count last ≡ None
+open_to count last few left = rw (lt-ltb count 64 few, lt-ltb last 4294967295 left)
+
+pub returns-in_err-i : goal.returns-in_err-i
+returns-in_err-i c =
+    let p = err_from_is_err_and c.from_residual.result c.from_residual.ensures.1 in
+    let t = c.self.inside in
+    let all : length c.args.self.now.by_number ≡ 64 = sym (ap (λ v. length v.by_number) c.self.view_is) ∙ full t.rows t.last c.self.invariant.1 c.in_err-i.ensures.1 ∙ c.self.invariant.0 in
+    rw (p.1, p.2) (rw (all, c.in_err-i.ensures.0), refl)
+
+pub returns-in_err-number : goal.returns-in_err-number
+returns-in_err-number c =
+    let p = err_from_is_err_and c.from_residual-in_err-number.result c.from_residual-in_err-number.ensures.1 in
+    let t = c.self.inside in
+    let few = fewer t.rows t.last c.in_ok-i.i c.self.invariant.1 c.in_ok-i.ensures.0 (c.in_ok-i.ensures.1 free_row) in
+    let says = used_up (length (listed t.rows)) t.last (omega (arith, few, c.self.invariant.0)) c.in_err-number.ensures.0 in
+    rw (p.1, p.2) (sym (ap (λ v. barred (length v.by_number) v.last) c.self.view_is) ∙ says ∙ sym (ap Some c.in_err-number.ensures.1), refl)
+
 pub invariant_of-self : goal.invariant_of-self
 invariant_of-self c =
-    let t = c.args.self.now in
-    let free = c.in_ok-i.ensures in
-    let d : Dialogue = record { number = t.last + 1; imsi = c.number.result; kind = c.args.kind; stage = c.first_stage.result; draft = c.none.result } in
-    let live : is_gone d.stage ≡ false = ap is_gone c.first_stage.ensures ∙ opens_live c.args.kind in
-    let within : c.in_ok-i.i < length t.rows = omega (arith, free.0, t.size) in
-    record { size = simp length-set t.size; sound = num_in _ _ (num_set t.rows t.last c.in_ok-i.i d within free.1 live (num_of t.rows t.last t.sound) (omega arith) c.number.ensures.fifteen) }
+    let t = c.self.inside in
+    let next = c.in_ok-number.ensures.1 in
+    let is = c.opening.ensures in
+    let number = ap (λ d. d.number) is in
+    let imsi = ap (λ d. d.imsi) is in
+    let live = ap (λ d. is_gone d.stage) is ∙ opens_live c.args.kind in
+    let sound = numbered-set t.rows t.last c.in_ok-i.i c.opening.result c.in_ok-i.ensures.0 (c.in_ok-i.ensures.1 free_row) live c.self.invariant.1 (omega (arith, next, number)) (omega (arith, imsi, c.args.imsi.fifteen)) in
+    (simp length-set c.self.invariant.0, rw (sym number) sound)
 
 pub returns : goal.returns
 returns c =
-    let t = c.args.self.now in
-    let free = c.in_ok-i.ensures in
-    let d : Dialogue = record { number = t.last + 1; imsi = c.number.result; kind = c.args.kind; stage = c.first_stage.result; draft = c.none.result } in
-    let live : is_gone d.stage ≡ false = ap is_gone c.first_stage.ensures ∙ opens_live c.args.kind in
-    let within : c.in_ok-i.i < length t.rows = omega (arith, free.0, t.size) in
-    let is : d ≡ opening (t.last + 1) c.args.imsi.number c.args.kind = let n = c.number.ensures.is in let s = c.first_stage.ensures in let e = c.none.ensures in cc in
-    (free.3, refl, listed-set t.rows c.in_ok-i.i d within free.1 live (above t.rows t.last (t.last + 1) (num_of t.rows t.last t.sound) (omega arith)) ∙ ap (with_entry (listed t.rows) (t.last + 1)) is, refl)
+    let t = c.self.inside in
+    let i = c.in_ok-i.i in
+    let free = c.in_ok-i.ensures.1 free_row in
+    let few = fewer t.rows t.last i c.self.invariant.1 c.in_ok-i.ensures.0 free in
+    let next = c.in_ok-number.ensures.1 in
+    let d = c.opening.result in
+    let is = c.opening.ensures in
+    let number = ap (λ d. d.number) is in
+    let live = ap (λ d. is_gone d.stage) is ∙ opens_live c.args.kind in
+    let put = listed-set t.rows i d c.in_ok-i.ensures.0 free live (above t.rows t.last d.number c.self.invariant.1 (omega (arith, next, number))) in
+    let with : ℕ → Dialogue → Dialogues = λ n e. record { by_number = with_entry (listed t.rows) e.number e; last = n } in (
+      sym (ap (λ v. barred (length v.by_number) v.last) c.self.view_is) ∙ open_to (length (listed t.rows)) t.last (omega (arith, few, c.self.invariant.0)) c.in_ok-number.ensures.0,
+      next ∙ ap (λ v. v.last + 1) c.self.view_is,
+      ap (λ es. record { by_number = es; last = c.in_ok-number.number }) put ∙ ap (with c.in_ok-number.number) is ∙ ap (λ n. with n (opening n c.args.imsi.number c.args.kind)) next ∙ ap (λ v. with_opened v c.args.imsi.number c.args.kind) c.self.view_is,
+    )
