@@ -17,7 +17,9 @@ impl Drop for DraftGuard<'_> {
         ensures { self.exit.0.now ≡ unwrap_or self.entry.old self.entry.draft.now }
     {
         let DraftGuard { draft, old } = self;
-        *draft = old.unwrap_or(*draft);
+        if let Some(old) = old {
+            *draft = old;
+        }
     }
 }
 
