@@ -16,7 +16,8 @@ use Rattle.restoration.specs.declared.record.Record.{Record}
 use Rattle.restoration.specs.declared.plan.Plan.{Plan}
 use Rattle.restoration.specs.Plans.{record_data}
 use Rattle.restoration.specs.State.{State}
-use Rattle.restoration.specs.Steps.{after, answered, found, busy, same_unless, planned_after, provide, accessed, went_out, registered, updating, insert_after, reset_after, cancel_after, auth_of, outcome_of, is_imsi, is_contact, is_message, handed, sent_if, sent_out}
+use Rattle.restoration.specs.Numbers.{auth_of, outcome_of}
+use Rattle.restoration.specs.Steps.{after, answered, found, busy, same_unless, planned_after, provide, accessed, went_out, registered, updating, insert_after, reset_after, cancel_after, is_imsi, is_contact, is_message, handed, sent_if, sent_out}
 use Rattle.restoration.specs.Received.{if_area, reading_after}
 use Rattle.restoration.specs.Sound.{Sound}
 use Rattle.restoration.specs.Complete.{is_for, says_done, good_end, records_read, DataLaw}

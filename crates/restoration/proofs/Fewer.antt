@@ -1,12 +1,12 @@
 -- A register stays sound where no dialogue is opened: each that is open then was open before. Assumes nothing.
-use Rattle.std.proofs.Common.{◌≡◌, ℕ, ◌≤◌, Bool, true, false, cond, [], length, Some, None, Option, sym, refl, ap, ◌∙◌, inl, inr, arith}
+use Rattle.std.proofs.Common.{◌≡◌, ℕ, ◌≤◌, Bool, true, false, cond, [], length, Some, None, Ok, Err, Option, Result, sym, refl, ap, ◌∙◌, inl, inr, arith}
 use Rattle.std.proofs.lemmas.Bool.{cases_eq}
+use Rattle.key.specs.declared.refusal.Refusal.{Refusal}
 use Rattle.store.specs.Model.{keys, rises, at, holds, with_entry, without, only}
 use Rattle.store.proofs.Maps.{rises_with, rises-without, at_with_same, at_with_other, at-without_same, at-without_other, holds_from_some}
 use Rattle.store.proofs.Changes.{length_with_known}
 use Rattle.dialogue.specs.declared.row.Dialogue.{Dialogue}
 use Rattle.dialogue.specs.declared.row.Met.{Met}
-use Rattle.dialogue.specs.declared.row.Met.TheVariants.{Refused, Sent, Withdrawn, Taken, Rejected, Ended}
 use Rattle.dialogue.specs.Dialogues.{Comes, is_gone, outcome, dialogue_after}
 use Rattle.dialogue.specs.Listed.{Open, unless_refused, kept_open, met_by, met_on}
 use Rattle.restoration.specs.State.{State}
@@ -85,13 +85,9 @@ module _ {s : State} (sound : Sound s) where
       by true e = one_less n
       by false e = one_changed n d (dialogue_after d c) is (record { number = refl; imsi = refl; kind = refl; here = e })
 
-  unless : (m : Met) (now : Open) → Fewer s.dialogues now → Fewer s.dialogues (unless_refused m s.dialogues now)
-  unless Refused now f = all_stay
-  unless Sent now f = f
-  unless Withdrawn now f = f
-  unless (Taken ignored) now f = f
-  unless Rejected now f = f
-  unless Ended now f = f
+  unless : (m : Result Met Refusal) (now : Open) → Fewer s.dialogues now → Fewer s.dialogues (unless_refused m s.dialogues now)
+  unless (Ok m) now f = f
+  unless (Err e) now f = all_stay
 
   -- what comes for the dialogue of a number
   pub meeting : (n : ℕ) (c : Comes) → Fewer s.dialogues (met_on s.dialogues n c)

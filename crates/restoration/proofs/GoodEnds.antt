@@ -1,6 +1,7 @@
 -- A good end leaves a record with groups A and B, and any other leaves its groups as they were. Assumes nothing.
-use Rattle.std.proofs.Common.{◌≡◌, ℕ, Bool, true, false, not, ◌&&◌, eqb, Some, None, Option, sym, refl, ap, ◌∙◌, subst, inl, inr, eq-eqb, ne_eqb}
+use Rattle.std.proofs.Common.{◌≡◌, ℕ, Bool, true, false, not, ◌&&◌, eqb, Some, None, Ok, Err, Option, Result, sym, refl, ap, ◌∙◌, subst, inl, inr, eq-eqb, ne_eqb}
 use Rattle.std.proofs.lemmas.Bool.{cases_eq, and_parts, and_left, and_right, both_ways}
+use Rattle.key.specs.declared.refusal.Refusal.{Refusal}
 use Rattle.store.specs.Model.{at, holds}
 use Rattle.store.proofs.Maps.{at_with_same, at_with_other, holds_from_none}
 use Rattle.event.specs.declared.answer.Kind.{Kind}
@@ -80,13 +81,13 @@ module _ (s : State) (d : Dialogue) (how : Outcome) where
       ]
 
 module _ (s : State) (n : ℕ) (how : Outcome) (q : ℕ) where
-  by_met : (m : Met) (d : Dialogue) → holds (end_left s m n d how).records q ≡ true → Supplied (eqb d.imsi q && says_done (end_said s m d how)) (record_data (found s q)) (record_data (found (end_left s m n d how) q))
-  by_met met.Refused d stands = unsupplied (and_right (eqb d.imsi q) false refl) refl
-  by_met met.Sent d stands = unsupplied (and_right (eqb d.imsi q) false refl) refl
-  by_met met.Withdrawn d stands = unsupplied (and_right (eqb d.imsi q) false refl) refl
-  by_met (met.Taken ignored) d stands = unsupplied (and_right (eqb d.imsi q) false refl) refl
-  by_met met.Rejected d stands = unsupplied (and_right (eqb d.imsi q) false refl) refl
-  by_met met.Ended d stands = left s d how q stands
+  by_met : (m : Result Met Refusal) (d : Dialogue) → holds (end_left s m n d how).records q ≡ true → Supplied (eqb d.imsi q && says_done (end_said s m d how)) (record_data (found s q)) (record_data (found (end_left s m n d how) q))
+  by_met (Err e) d stands = unsupplied (and_right (eqb d.imsi q) false refl) refl
+  by_met (Ok met.Sent) d stands = unsupplied (and_right (eqb d.imsi q) false refl) refl
+  by_met (Ok met.Withdrawn) d stands = unsupplied (and_right (eqb d.imsi q) false refl) refl
+  by_met (Ok (met.Taken ignored)) d stands = unsupplied (and_right (eqb d.imsi q) false refl) refl
+  by_met (Ok met.Rejected) d stands = unsupplied (and_right (eqb d.imsi q) false refl) refl
+  by_met (Ok met.Ended) d stands = left s d how q stands
 
   by_dialogue : (b : Bool) (o : Option Dialogue) → holds (same_unless b s (end_on s n o how)).records q ≡ true → Supplied (is_for q o && says_done (or_out_of_range b (end_in s o how))) (record_data (found s q)) (record_data (found (same_unless b s (end_on s n o how)) q))
   by_dialogue false o stands = unsupplied (and_right (is_for q o) false refl) refl

@@ -1,6 +1,7 @@
 -- A register stays sound where dialogues end, where records are cancelled or reset, and at a restart. Assumes nothing.
-use Rattle.std.proofs.Common.{◌≡◌, ℕ, Bool, true, false, cond, eqb, ltb, [], length, Some, None, Option, refl, ap, ◌∙◌, arith, eq-eqb}
+use Rattle.std.proofs.Common.{◌≡◌, ℕ, Bool, true, false, cond, eqb, ltb, [], length, Some, None, Ok, Err, Option, Result, refl, ap, ◌∙◌, arith, eq-eqb}
 use Rattle.std.proofs.lemmas.Bool.{both_ways, not-true, or_left}
+use Rattle.key.specs.declared.refusal.Refusal.{Refusal}
 use Rattle.store.specs.Model.{rises, at, holds, without, only}
 use Rattle.store.proofs.Maps.{rises-without}
 use Rattle.store.proofs.Changes.{at_cleared, holds-without_other}
@@ -39,13 +40,13 @@ module _ {s : State} (sound : Sound s) where
   pub end_sound : (n : ℕ) (how : Outcome) → Sound (end_after s n how)
   end_sound n how = go (at s.dialogues n) refl
     where
-      by : (m : Met) (d : Dialogue) → at s.dialogues n ≡ Some d → Sound (end_left s m n d how)
-      by met.Refused d is = sound
-      by met.Sent d is = sound
-      by met.Withdrawn d is = sound
-      by (met.Taken ignored) d is = sound
-      by met.Rejected d is = sound
-      by met.Ended d is = left_sound n d is (end_of s d how).kept
+      by : (m : Result Met Refusal) (d : Dialogue) → at s.dialogues n ≡ Some d → Sound (end_left s m n d how)
+      by (Ok met.Sent) d is = sound
+      by (Ok met.Withdrawn) d is = sound
+      by (Ok (met.Taken ignored)) d is = sound
+      by (Ok met.Rejected) d is = sound
+      by (Ok met.Ended) d is = left_sound n d is (end_of s d how).kept
+      by (Err e) d is = sound
 
       go : (o : Option Dialogue) → at s.dialogues n ≡ o → Sound (end_on s n o how)
       go None is = sound

@@ -11,7 +11,8 @@ use Rattle.dialogue.specs.declared.row.Dialogue.{Dialogue}
 use Rattle.dialogue.specs.Dialogues as comes
 use Rattle.restoration.specs.declared.record.Record.{Record}
 use Rattle.restoration.specs.State.{State, started}
-use Rattle.restoration.specs.Steps.{after, answered, same_unless, planned_after, provide, accessed, went_out, registered, updating, insert_after, end_after, reset_after, cancel_after, auth_of, outcome_of, is_imsi, is_contact, is_message, handed, sent_if, sent_out}
+use Rattle.restoration.specs.Numbers.{auth_of, outcome_of}
+use Rattle.restoration.specs.Steps.{after, answered, same_unless, planned_after, provide, accessed, went_out, registered, updating, insert_after, end_after, reset_after, cancel_after, is_imsi, is_contact, is_message, handed, sent_if, sent_out}
 use Rattle.restoration.specs.Received.{if_area, reading_after, received_after}
 use Rattle.restoration.specs.Sound.{Sound, StaysSound}
 use Rattle.restoration.proofs.Parts.{some-none, none-rises}

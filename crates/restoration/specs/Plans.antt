@@ -1,5 +1,5 @@
 -- What each event comes to for one subscriber, row by row of the tables. Assumes nothing.
-use Rattle.std.specs.Prelude.{ℕ, Bool, true, false, cond, not, ◌&&◌, ◌||◌, Some, None, Option}
+use Rattle.std.specs.Prelude.{ℕ, Bool, true, false, cond, not, ◌&&◌, ◌||◌, Some, None, Ok, Err, Option, Result}
 use Rattle.event.specs.declared.answer.Answer.{Answer}
 use Rattle.event.specs.declared.answer.Reply.{Reply}
 use Rattle.event.specs.declared.answer.Reply.TheVariants.{Done, UnidentifiedSubscriber, IllegalSubscriber, SystemFailure, DataMissing, UnexpectedDataValue}
@@ -128,6 +128,10 @@ end_reply true well rejected = Done
 end_reply false false rejected = SystemFailure
 end_reply false true true = UnexpectedDataValue
 end_reply false true false = DataMissing
+
+-- the data that a good end leaves, or the reply to one that is not good
+abbrev pub data_at_end : Dialogue → Outcome → Option Record → Result SubscriberData Reply
+data_at_end d outcome old = cond (is_good d outcome old) (Ok (resulting_data d.kind d.draft old)) (Err (end_reply false (is_well outcome) (is_rejected d.stage)))
 
 -- what an end leaves of the record
 abbrev pub well_ended : Kind → SubscriberData → Record → Record

@@ -5,17 +5,18 @@ use Rattle.key.specs.declared.refusal.Refusal.TheVariants.{AreaTooShort}
 use Rattle.event.specs.declared.answer.Answer.{Answer}
 use Rattle.event.specs.Answers.{written_into}
 use Rattle.event.specs.Decoding.{Reading, read, refused, decoded}
+use Rattle.restoration.specs.declared.received.Received.{Received}
 use Rattle.restoration.specs.State.{State}
 use Rattle.restoration.specs.Steps.{answered, after, sent_out}
 
--- the length that was read, where the event is accepted
-abbrev pub length_if : ℕ → Result Answer Refusal → Result ℕ Refusal
-length_if n (Ok a) = Ok n
-length_if n (Err e) = Err e
+-- the length that was read and the answer, where the event is accepted
+abbrev pub with_length : ℕ → Result Answer Refusal → Result Received Refusal
+with_length n (Ok a) = Ok (record { length = n; answer = a })
+with_length n (Err e) = Err e
 
 -- by what the bytes are read as
-abbrev pub reading_answer : State → Reading → Result ℕ Refusal
-reading_answer s (read e n) = length_if n (answered s e)
+abbrev pub reading_answer : State → Reading → Result Received Refusal
+reading_answer s (read e n) = with_length n (answered s e)
 reading_answer s (refused x) = Err x
 
 abbrev pub reading_after : State → Reading → State
@@ -36,7 +37,7 @@ abbrev pub if_area : {A : Type 0} → Bool → A → A → A
 if_area true short long = short
 if_area false short long = long
 
-abbrev pub received : State → List ℕ → List ℕ → Result ℕ Refusal
+abbrev pub received : State → List ℕ → List ℕ → Result Received Refusal
 received s input area = if_area (nat_lt (length area) 16) (Err AreaTooShort) (reading_answer s (decoded input))
 
 abbrev pub received_after : State → List ℕ → List ℕ → State

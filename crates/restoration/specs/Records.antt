@@ -1,5 +1,5 @@
 -- Records as they are made and changed. Assumes nothing.
-use Rattle.std.specs.Prelude.{Bool, true, false, Some, None, Option}
+use Rattle.std.specs.Prelude.{ℕ, Bool, true, false, List, Some, None, Option, codes}
 use Rattle.dialogue.specs.declared.data.SubscriberData.{SubscriberData}
 use Rattle.dialogue.specs.Data.{no_data}
 use Rattle.restoration.specs.declared.record.Indicator.{Indicator}
@@ -10,6 +10,10 @@ use Rattle.restoration.specs.declared.record.Record.{Record}
 abbrev pub is_unconfirmed : Indicator → Bool
 is_unconfirmed NotConfirmed = true
 is_unconfirmed Confirmed = false
+
+abbrev pub indicator_text : Indicator → List ℕ
+indicator_text NotConfirmed = codes "N"
+indicator_text Confirmed = codes "C"
 
 abbrev pub nowhere : Place
 nowhere = record { msc = None; area = None }

@@ -26,11 +26,10 @@ use Rattle.restoration.specs.declared.record.Record.{Record}
 use Rattle.restoration.specs.declared.record.Indicator.TheVariants.{NotConfirmed}
 use Rattle.restoration.specs.declared.plan.Plan.{Plan}
 use Rattle.restoration.specs.declared.contacts.Auth.{Auth}
-use Rattle.restoration.specs.declared.contacts.Auth.TheVariants.{Failed, Passed}
 use Rattle.restoration.specs.declared.updates.Outcome.{Outcome}
-use Rattle.restoration.specs.declared.updates.Outcome.TheVariants.{Well, NotWell}
 use Rattle.restoration.specs.Records.{relocated}
 use Rattle.restoration.specs.Plans.{answer_of, roaming_number_plan, reach_plan, access_plan, outgoing_plan, registration_plan, update_plan, end_plan}
+use Rattle.restoration.specs.Numbers.{auth_of, outcome_of}
 use Rattle.restoration.specs.State.{State}
 
 -- a state with other records or other dialogues
@@ -116,13 +115,13 @@ abbrev pub plain : Reply → Ignored → Subject → Answer
 plain reply ignored subject = record { reply = reply; handling = Nothing; opened = None; ignored = ignored; subject = subject }
 
 -- Insert: by what became of the dialogue
-abbrev pub insert_said : Met → ℕ → Result Answer Refusal
-insert_said met.Refused k = Err DialogueNotOpen
-insert_said met.Sent k = Err DialogueNotOpen
-insert_said met.Withdrawn k = Err DialogueNotOpen
-insert_said (met.Taken ignored) k = Ok (plain Done ignored (Subscriber k))
-insert_said met.Rejected k = Ok (plain UnexpectedDataValue none_ignored (Subscriber k))
-insert_said met.Ended k = Err DialogueNotOpen
+abbrev pub insert_said : Result Met Refusal → ℕ → Result Answer Refusal
+insert_said (Ok met.Sent) k = Err DialogueNotOpen
+insert_said (Ok met.Withdrawn) k = Err DialogueNotOpen
+insert_said (Ok (met.Taken ignored)) k = Ok (plain Done ignored (Subscriber k))
+insert_said (Ok met.Rejected) k = Ok (plain UnexpectedDataValue none_ignored (Subscriber k))
+insert_said (Ok met.Ended) k = Err DialogueNotOpen
+insert_said (Err e) k = Err e
 
 abbrev pub insert_in : Option Dialogue → List ℕ → Result Answer Refusal
 insert_in None groups = Err DialogueNotOpen
@@ -138,13 +137,13 @@ insert_after s n groups = with_dialogues s (met_on s.dialogues n (comes.insert g
 abbrev pub end_of : State → Dialogue → Outcome → Plan
 end_of s d how = end_plan d how (found s d.imsi)
 
-abbrev pub end_said : State → Met → Dialogue → Outcome → Result Answer Refusal
-end_said s met.Refused d how = Err DialogueNotOpen
-end_said s met.Sent d how = Err DialogueNotOpen
-end_said s met.Withdrawn d how = Err DialogueNotOpen
-end_said s (met.Taken ignored) d how = Err DialogueNotOpen
-end_said s met.Rejected d how = Err DialogueNotOpen
-end_said s met.Ended d how = Ok (answer_of (end_of s d how) d.imsi None)
+abbrev pub end_said : State → Result Met Refusal → Dialogue → Outcome → Result Answer Refusal
+end_said s (Ok met.Sent) d how = Err DialogueNotOpen
+end_said s (Ok met.Withdrawn) d how = Err DialogueNotOpen
+end_said s (Ok (met.Taken ignored)) d how = Err DialogueNotOpen
+end_said s (Ok met.Rejected) d how = Err DialogueNotOpen
+end_said s (Ok met.Ended) d how = Ok (answer_of (end_of s d how) d.imsi None)
+end_said s (Err e) d how = Err e
 
 abbrev pub end_in : State → Option Dialogue → Outcome → Result Answer Refusal
 end_in s None how = Err DialogueNotOpen
@@ -153,13 +152,13 @@ end_in s (Some d) how = end_said s (outcome d comes.end) d how
 abbrev pub end_answer : State → ℕ → Outcome → Result Answer Refusal
 end_answer s n how = end_in s (at s.dialogues n) how
 
-abbrev pub end_left : State → Met → ℕ → Dialogue → Outcome → State
-end_left s met.Refused n d how = s
-end_left s met.Sent n d how = s
-end_left s met.Withdrawn n d how = s
-end_left s (met.Taken ignored) n d how = s
-end_left s met.Rejected n d how = s
-end_left s met.Ended n d how = record { records = keep s.records d.imsi (end_of s d how).kept; room = s.room; dialogues = without s.dialogues n; last = s.last; several = s.several }
+abbrev pub end_left : State → Result Met Refusal → ℕ → Dialogue → Outcome → State
+end_left s (Ok met.Sent) n d how = s
+end_left s (Ok met.Withdrawn) n d how = s
+end_left s (Ok (met.Taken ignored)) n d how = s
+end_left s (Ok met.Rejected) n d how = s
+end_left s (Ok met.Ended) n d how = record { records = keep s.records d.imsi (end_of s d how).kept; room = s.room; dialogues = without s.dialogues n; last = s.last; several = s.several }
+end_left s (Err e) n d how = s
 
 abbrev pub end_on : State → ℕ → Option Dialogue → Outcome → State
 end_on s n None how = s
@@ -193,12 +192,6 @@ abbrev pub restart_after : State → State
 restart_after s = record { records = []; room = s.room; dialogues = []; last = s.last; several = s.several }
 
 -- operands within their ranges
-abbrev pub auth_of : ℕ → Auth
-auth_of n = cond (n == 0) Failed Passed
-
-abbrev pub outcome_of : ℕ → Outcome
-outcome_of n = cond (n == 0) Well NotWell
-
 abbrev pub is_imsi : ℕ → Bool
 is_imsi k = nat_lt k imsi_limit
 
@@ -250,13 +243,9 @@ after s (cancel k) = same_unless (is_imsi k) s (cancel_after s k)
 after s restart = restart_after s
 
 -- spending the invoke of a dialogue: 1, or 0 with nothing changed where no unsent one is open
-abbrev pub spent_by : Met → ℕ
-spent_by met.Refused = 0
-spent_by met.Sent = 1
-spent_by met.Withdrawn = 1
-spent_by (met.Taken ignored) = 1
-spent_by met.Rejected = 1
-spent_by met.Ended = 1
+abbrev pub spent_by : Result Met Refusal → ℕ
+spent_by (Ok m) = 1
+spent_by (Err e) = 0
 
 abbrev pub spending_answer : State → ℕ → Comes → ℕ
 spending_answer s n c = spent_by (met_at (at s.dialogues n) c)

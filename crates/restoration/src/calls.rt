@@ -10,19 +10,14 @@ use event::{Handling, Kind, Reply};
 pub fn plan_roaming_number(several: bool, old: Option<Record>, busy: bool) -> Plan
     ensures { result ≡ roaming_number_plan several old busy }
 {
-    let (kept, lacks_data) = match old {
-        Some(record) => (None, record.data.is_unconfirmed()),
-        None => {
-            let location = if several {
-                Indicator::NotConfirmed
-            } else {
-                Indicator::Confirmed
-            };
-            (Some(Record::made(location)), true)
-        }
+    let location = if several {
+        Indicator::NotConfirmed
+    } else {
+        Indicator::Confirmed
     };
+    let lacks_data = old.is_none_or(|record| record.data == Indicator::NotConfirmed);
     Plan {
-        kept,
+        kept: old.is_none().then_some(Record::made(location)),
         reply: Reply::Done,
         handling: Handling::RoamingNumber,
         opens: unless_open(lacks_data, busy, Kind::RestoreData),

@@ -1,17 +1,33 @@
 //! Contacts of a handset: Access, Outgoing and Registration.
 ghost use Rattle.std.specs.Prelude.{◌≡◌};
+ghost use Rattle.restoration.specs.Numbers.{AuthSays};
 ghost use Rattle.restoration.specs.Plans.{contact_plan, access_plan, outgoing_plan, registration_plan};
 
 use crate::plan::{Plan, unless_open};
 use crate::record::{Indicator, Place, Record};
 use event::{Handling, Kind, Reply};
+use key::Refusal;
 
 /// How authentication went.
-#[derive(Clone, Copy)]
+#[derive(Clone, Copy, PartialEq, Eq, Debug)]
 pub enum Auth {
     Failed,
     /// It passed, or was not needed.
     Passed,
+}
+
+impl TryFrom<u8> for Auth {
+    type Error = Refusal;
+
+    ghost try_from_gives = { AuthSays };
+
+    fn try_from(number: u8) -> Result<Auth, Refusal> {
+        match number {
+            0 => Ok(Auth::Failed),
+            1 => Ok(Auth::Passed),
+            _ => Err(Refusal::OutOfRange),
+        }
+    }
 }
 
 /// A contact with a record: `only` is what is kept where authentication failed.
@@ -54,7 +70,7 @@ pub fn plan_access(old: Option<Record>, auth: Auth, msc: u8, area: u16, busy: bo
         msc: Some(msc),
         area: Some(area),
     };
-    let wanted = record.location.is_unconfirmed();
+    let wanted = record.location == Indicator::NotConfirmed;
     plan_contact(None, record, auth, place, wanted, busy)
 }
 
@@ -65,14 +81,14 @@ pub fn plan_outgoing(old: Option<Record>, auth: Auth, msc: u8, busy: bool) -> Pl
     let Some(record) = old else {
         return Plan::reply_only(Reply::UnidentifiedSubscriber);
     };
-    if record.data.is_unconfirmed() {
+    if record.data == Indicator::NotConfirmed {
         return Plan::reply_only(Reply::UnidentifiedSubscriber);
     }
     let place = Place {
         msc: Some(msc),
         ..record.place
     };
-    let wanted = record.location.is_unconfirmed();
+    let wanted = record.location == Indicator::NotConfirmed;
     plan_contact(None, record, auth, place, wanted, busy)
 }
 
@@ -86,6 +102,7 @@ pub fn plan_registration(old: Option<Record>, auth: Auth, msc: u8, area: u16, bu
         msc: Some(msc),
         area: Some(area),
     };
-    let wanted = record.location.is_unconfirmed() || record.data.is_unconfirmed();
+    let wanted = record.location == Indicator::NotConfirmed
+        || record.data == Indicator::NotConfirmed;
     plan_contact(only, record, auth, place, wanted, busy)
 }

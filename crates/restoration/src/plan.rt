@@ -6,7 +6,7 @@ use crate::record::Record;
 use event::{Answer, Handling, Ignored, Kind, Opened, Reply, Subject};
 
 /// The record to keep, if it changes; the reply and the handling; and the kind of dialogue to open, if any.
-#[derive(Clone, Copy)]
+#[derive(Clone, Copy, PartialEq, Eq, Debug)]
 pub struct Plan {
     pub kept: Option<Record>,
     pub reply: Reply,
@@ -45,5 +45,5 @@ impl Plan {
 pub fn unless_open(wanted: bool, open: bool, kind: Kind) -> Option<Kind>
     ensures { result ≡ unless_open wanted «open» kind }
 {
-    if wanted && !open { Some(kind) } else { None }
+    (wanted && !open).then_some(kind)
 }

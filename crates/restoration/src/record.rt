@@ -1,25 +1,26 @@
 //! What a visitor register keeps of a subscriber.
-ghost use Rattle.std.specs.Prelude.{◌≡◌};
-ghost use Rattle.restoration.specs.Records.{made, or_made, only_made, is_unconfirmed, relocated};
+ghost use Rattle.std.specs.Prelude.{◌≡◌, Some};
+ghost use Rattle.restoration.specs.Records.{made, or_made, only_made, relocated, indicator_text};
 
 use dialogue::SubscriberData;
+use std::fmt;
 
 /// Whether something that a record says may be believed.
-#[derive(Clone, Copy)]
+#[derive(Clone, Copy, PartialEq, Eq, Debug)]
 pub enum Indicator {
     NotConfirmed,
     Confirmed,
 }
 
 /// Where the handset was last seen. Either part is absent until it is told.
-#[derive(Clone, Copy)]
+#[derive(Clone, Copy, PartialEq, Eq, Debug)]
 pub struct Place {
     pub msc: Option<u8>,
     pub area: Option<u16>,
 }
 
 /// The record of one subscriber. Any fields make a record: what holds of them follows from the history.
-#[derive(Clone, Copy)]
+#[derive(Clone, Copy, PartialEq, Eq, Debug)]
 pub struct Record {
     /// The handset has been in radio contact since the record was made.
     pub radio: Indicator,
@@ -31,14 +32,14 @@ pub struct Record {
     pub subscriber: SubscriberData,
 }
 
-impl Indicator {
-    pub fn is_unconfirmed(self) -> bool
-        ensures { result ≡ is_unconfirmed self }
-    {
-        match self {
-            Indicator::NotConfirmed => true,
-            Indicator::Confirmed => false,
-        }
+impl fmt::Display for Indicator {
+    ghost output = { λ i. Some (indicator_text i) };
+
+    fn fmt<W: fmt::Write>(&self, f: &mut fmt::Formatter<W>) -> fmt::Result {
+        f.write_str(match self {
+            Indicator::NotConfirmed => "N",
+            Indicator::Confirmed => "C",
+        })
     }
 }
 
@@ -55,7 +56,7 @@ impl Record {
                 msc: None,
                 area: None,
             },
-            subscriber: SubscriberData::none(),
+            subscriber: SubscriberData::default(),
         }
     }
 
@@ -63,20 +64,15 @@ impl Record {
     pub fn or_made(old: Option<Record>) -> Record
         ensures { result ≡ or_made old }
     {
-        match old {
-            Some(record) => record,
-            None => Record::made(Indicator::NotConfirmed),
-        }
+        old.unwrap_or(Record::made(Indicator::NotConfirmed))
     }
 
     /// The record that a registration makes, where there was none.
     pub fn only_made(old: Option<Record>) -> Option<Record>
         ensures { result ≡ only_made old }
     {
-        match old {
-            Some(_) => None,
-            None => Some(Record::made(Indicator::NotConfirmed)),
-        }
+        old.is_none()
+            .then_some(Record::made(Indicator::NotConfirmed))
     }
 
     /// The same record with its location no longer confirmed.

@@ -1,17 +1,33 @@
 //! Updates of subscriber data: opening a stand-alone one, and the end of any dialogue.
 ghost use Rattle.std.specs.Prelude.{◌≡◌};
-ghost use Rattle.restoration.specs.Plans.{update_plan, resulting_data, is_rejected, is_well, end_reply, well_ended, ill_ended, ended, end_plan};
+ghost use Rattle.restoration.specs.Numbers.{OutcomeSays};
+ghost use Rattle.restoration.specs.Plans.{update_plan, resulting_data, data_at_end, well_ended, ill_ended, end_plan};
 
 use crate::plan::Plan;
 use crate::record::{Indicator, Record};
 use dialogue::{Dialogue, Stage, SubscriberData};
 use event::{Kind, Reply};
+use key::Refusal;
 
 /// How the home register ended a dialogue.
-#[derive(Clone, Copy)]
+#[derive(Clone, Copy, PartialEq, Eq, Debug)]
 pub enum Outcome {
     Well,
     NotWell,
+}
+
+impl TryFrom<u8> for Outcome {
+    type Error = Refusal;
+
+    ghost try_from_gives = { OutcomeSays };
+
+    fn try_from(number: u8) -> Result<Outcome, Refusal> {
+        match number {
+            0 => Ok(Outcome::Well),
+            1 => Ok(Outcome::NotWell),
+            _ => Err(Refusal::OutOfRange),
+        }
+    }
 }
 
 /// The home register opens a stand-alone update; `busy` tells whether one is open.
@@ -32,39 +48,26 @@ pub fn plan_update(old: Option<Record>, busy: bool) -> Plan
 fn resulting_data(kind: Kind, draft: SubscriberData, old: Option<Record>) -> SubscriberData
     ensures { result ≡ resulting_data kind draft old }
 {
-    match (kind, old) {
-        (Kind::StandAlone, Some(record)) => draft.over(record.subscriber),
-        (Kind::StandAlone, None) => draft.over(SubscriberData::none()),
-        _ => draft,
+    match kind {
+        Kind::StandAlone => draft.over(old.map(|record| record.subscriber).unwrap_or_default()),
+        Kind::RestoreData | Kind::UpdateLocation => draft,
     }
 }
 
-fn is_rejected(stage: Stage) -> bool
-    ensures { result ≡ is_rejected stage }
+/// The data that a good end leaves, or the reply to an end that is not good.
+fn data_at_end(
+    dialogue: Dialogue,
+    outcome: Outcome,
+    old: Option<Record>,
+) -> Result<SubscriberData, Reply>
+    ensures { result ≡ data_at_end dialogue outcome old }
 {
-    match stage {
-        Stage::Rejected => true,
-        _ => false,
-    }
-}
-
-fn is_well(outcome: Outcome) -> bool
-    ensures { result ≡ is_well outcome }
-{
-    match outcome {
-        Outcome::Well => true,
-        Outcome::NotWell => false,
-    }
-}
-
-fn end_reply(good: bool, well: bool, rejected: bool) -> Reply
-    ensures { result ≡ end_reply good well rejected }
-{
-    match (good, well, rejected) {
-        (true, _, _) => Reply::Done,
-        (false, false, _) => Reply::SystemFailure,
-        (false, true, true) => Reply::UnexpectedDataValue,
-        (false, true, false) => Reply::DataMissing,
+    let subscriber = resulting_data(dialogue.kind, dialogue.draft, old);
+    match (outcome, dialogue.stage) {
+        (Outcome::NotWell, _) => Err(Reply::SystemFailure),
+        (Outcome::Well, Stage::Rejected) => Err(Reply::UnexpectedDataValue),
+        (Outcome::Well, _) if subscriber.is_complete() => Ok(subscriber),
+        (Outcome::Well, _) => Err(Reply::DataMissing),
     }
 }
 
@@ -97,27 +100,18 @@ fn ill_ended(kind: Kind, record: Record) -> Option<Record>
     }
 }
 
-fn ended(kind: Kind, good: bool, subscriber: SubscriberData, old: Option<Record>) -> Option<Record>
-    ensures { result ≡ ended kind good subscriber old }
-{
-    let record = old?;
-    if good {
-        Some(well_ended(kind, subscriber, record))
-    } else {
-        ill_ended(kind, record)
-    }
-}
-
 /// The end of a dialogue, as it stood.
 pub fn plan_end(dialogue: Dialogue, outcome: Outcome, old: Option<Record>) -> Plan
     ensures { result ≡ end_plan dialogue outcome old }
 {
-    let subscriber = resulting_data(dialogue.kind, dialogue.draft, old);
-    let well = is_well(outcome);
-    let rejected = is_rejected(dialogue.stage);
-    let good = well && !rejected && subscriber.is_complete();
-    Plan {
-        kept: ended(dialogue.kind, good, subscriber, old),
-        ..Plan::reply_only(end_reply(good, well, rejected))
+    match data_at_end(dialogue, outcome, old) {
+        Ok(subscriber) => Plan {
+            kept: old.map(|record| well_ended(dialogue.kind, subscriber, record)),
+            ..Plan::reply_only(Reply::Done)
+        },
+        Err(reply) => Plan {
+            kept: old.and_then(|record| ill_ended(dialogue.kind, record)),
+            ..Plan::reply_only(reply)
+        },
     }
 }
