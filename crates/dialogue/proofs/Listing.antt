@@ -14,11 +14,6 @@ use Rattle.dialogue.proofs.Dropped.{without_with_new, without_with_other}
 abbrev pub free_row : Dialogue
 free_row = record { number = 0; imsi = 0; kind = RestoreData; stage = Gone; draft = no_data }
 
-pub low_imsi : (rs : List Dialogue) (last i : ℕ) → Numbered rs last → i < length rs → is_gone (get_or rs i free_row).stage ≡ false → (get_or rs i free_row).imsi < 1000000000000000
-low_imsi [] last i h l f = absurd (omega arith)
-low_imsi (r ∷ rs) last zero h l f = (h.0 f).2
-low_imsi (r ∷ rs) last (suc i) h l f = low_imsi rs last i h.1 (omega arith) f
-
 pub listed-rises : (rs : List Dialogue) → rises (keys (listed rs)) ≡ true
 unfolding listed rises
 listed-rises [] = refl

@@ -13,9 +13,6 @@ rejected_stays : (gs : List (List ℕ)) → fold one_more None gs ≡ None
 rejected_stays [] = refl
 rejected_stays (g ∷ gs) = rejected_stays gs
 
-pub loop-bytes-init : goal.loop-bytes-init
-loop-bytes-init c = (refl, rw c.as_chunks.ensures.front)
-
 pub loop-bytes-preserved : goal.loop-bytes-preserved
 loop-bytes-preserved c =
     let gs = c.as_chunks.result.0.now in
