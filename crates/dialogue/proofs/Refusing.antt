@@ -40,7 +40,7 @@ same_stage Rejected end d e h = ok_err _ e h
 same_dialogue : (d : Dialogue) (c : Comes) (e : Refusal) → outcome d c ≡ Err e → dialogue_after d c ≡ d
 same_dialogue d c e h =
     let p = same_stage d.stage c d.draft e h in
-    let at_stage : Stage → SubscriberData → Dialogue = λ s g. record { number = d.number; imsi = d.imsi; kind = d.kind; stage = s; draft = g } in
+    let at_stage : Stage → SubscriberData → Dialogue = λ s g. record d { stage = s; draft = g } in
     ap (λ s. at_stage s (next_draft d.stage c d.draft)) p.0 ∙ ap (at_stage d.stage) p.1
 
 -- what is set again is as it was

@@ -11,7 +11,7 @@ use Rattle.dialogue.proofs.Listing.{free_row, listed-rises, listed_gone, apart, 
 
 -- a row is freed
 abbrev pub freed : Dialogue → Dialogue
-freed r = record { number = r.number; imsi = r.imsi; kind = r.kind; stage = Gone; draft = r.draft }
+freed r = record r { stage = Gone }
 
 -- the first i rows, freed where they are such
 module _ (p : Dialogue → Bool) where

@@ -107,7 +107,7 @@ next_draft Sent end draft = draft
 next_draft Rejected c draft = draft
 
 abbrev pub dialogue_after : Dialogue → Comes → Dialogue
-dialogue_after d c = record { number = d.number; imsi = d.imsi; kind = d.kind; stage = next_stage d.stage c d.draft; draft = next_draft d.stage c d.draft }
+dialogue_after d c = record d { stage = next_stage d.stage c d.draft; draft = next_draft d.stage c d.draft }
 
 abbrev pub same_kind : Kind → Kind → Bool
 same_kind RestoreData RestoreData = true

@@ -47,9 +47,9 @@ group_read s = cond (length s == 11) (lettered (slice_index s 0) s) None
 
 -- the data with a group put over what was there
 abbrev pub with_group : Group → SubscriberData → SubscriberData
-with_group (Subscriber a) d = record { subscriber = Some a; services = d.services; barring = d.barring; restricted = d.restricted }
-with_group (Services b) d = record { subscriber = d.subscriber; services = Some b; barring = d.barring; restricted = d.restricted }
+with_group (Subscriber a) d = record d { subscriber = Some a }
+with_group (Services b) d = record d { services = Some b }
 with_group Supplementary d = d
-with_group (Barring b) d = record { subscriber = d.subscriber; services = d.services; barring = Some b; restricted = d.restricted }
-with_group (Restriction r) d = record { subscriber = d.subscriber; services = d.services; barring = d.barring; restricted = Some r }
+with_group (Barring b) d = record d { barring = Some b }
+with_group (Restriction r) d = record d { restricted = Some r }
 with_group Regional d = d

@@ -49,7 +49,7 @@ other_imsi imsi e = not (e.1.imsi == imsi)
 
 -- the table without the dialogues of a subscriber
 abbrev pub without_imsi : Dialogues → ℕ → Dialogues
-without_imsi was imsi = record { by_number = only (other_imsi imsi) was.by_number; last = was.last }
+without_imsi was imsi = record was { by_number = only (other_imsi imsi) was.by_number }
 
 -- why no dialogue can open, where so many are open and the last number is `last`
 abbrev pub barred : ℕ → ℕ → Option Refusal
@@ -86,7 +86,7 @@ met_on es n c = met_by es n (at es n) c
 
 -- the table after it
 abbrev pub with_met : Dialogues → ℕ → Comes → Dialogues
-with_met was n c = record { by_number = met_on was.by_number n c; last = was.last }
+with_met was n c = record was { by_number = met_on was.by_number n c }
 
 -- where the dialogue of the number stands
 abbrev pub PlaceSays : Result ℕ Refusal → List Dialogue → ℕ → Type 0

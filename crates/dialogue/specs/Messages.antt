@@ -19,10 +19,10 @@ none_ignored = record { supplementary = false; regional = false }
 abbrev pub with_ignored : Group → Ignored → Ignored
 with_ignored (Subscriber a) i = i
 with_ignored (Services b) i = i
-with_ignored Supplementary i = record { supplementary = true; regional = i.regional }
+with_ignored Supplementary i = record i { supplementary = true }
 with_ignored (Barring b) i = i
 with_ignored (Restriction r) i = i
-with_ignored Regional i = record { supplementary = i.supplementary; regional = true }
+with_ignored Regional i = record i { regional = true }
 
 -- one group more, unless it is unexpected
 abbrev pub with_more : Option Group → Progress → Option Progress

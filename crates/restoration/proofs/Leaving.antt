@@ -32,9 +32,9 @@ module _ {s : State} (sound : Sound s) where
   room_for k None h = refl
   room_for k (Some v) h = or_left (holds s.records k) (ltb (length s.records) s.room) h
 
-  left_sound : (n : ℕ) (d : Dialogue) → at s.dialogues n ≡ Some d → (kept : Option Record) → Sound (record { records = keep s.records d.imsi kept; room = s.room; dialogues = without s.dialogues n; last = s.last; several = s.several })
+  left_sound : (n : ℕ) (d : Dialogue) → at s.dialogues n ≡ Some d → (kept : Option Record) → Sound (record s { records = keep s.records d.imsi kept; dialogues = without s.dialogues n })
   left_sound n d is kept =
-      let t : State = record { records = keep s.records d.imsi kept; room = s.room; dialogues = without s.dialogues n; last = s.last; several = s.several } in
+      let t : State = record s { records = keep s.records d.imsi kept; dialogues = without s.dialogues n } in
       fewer_sound sound t (keep-rises s.records d.imsi kept sound.records_rise) (keep_fits s d.imsi kept sound (room_for d.imsi kept (sound.on_record n d is))) (one_less sound n) refl (still_on_record sound t (one_less sound n) (keep-holds s.records d.imsi kept))
 
   pub end_sound : (n : ℕ) (how : Outcome) → Sound (end_after s n how)
@@ -67,9 +67,9 @@ module _ {s : State} (sound : Sound s) where
   pub cancel_sound : (k : ℕ) → Sound (cancel_after s k)
   cancel_sound k = by (holds s.records k)
     where
-      by : (b : Bool) → Sound (cond b (record { records = without s.records k; room = s.room; dialogues = only (other_imsi k) s.dialogues; last = s.last; several = s.several }) s)
+      by : (b : Bool) → Sound (cond b (record s { records = without s.records k; dialogues = only (other_imsi k) s.dialogues }) s)
       by true =
-          let t : State = record { records = without s.records k; room = s.room; dialogues = only (other_imsi k) s.dialogues; last = s.last; several = s.several } in
+          let t : State = record s { records = without s.records k; dialogues = only (other_imsi k) s.dialogues } in
           fewer_sound sound t (rises-without s.records k sound.records_rise) (let l = without_shorter s.records k in let m = sound.fitting in omega arith) (some_stay sound (other_imsi k)) refl (others_on_record k)
       by false = sound
 

@@ -80,7 +80,7 @@ module _ {s : State} (sound : Sound s) (k : ℕ) (kind : Kind) where
   apart first n d h i t = both_ways (on k kind (n, d)) (none_such (on k kind) s.dialogues first n d h) (and_from (eqb d.imsi k) (same_kind d.kind kind) (eq-eqb d.imsi k i) (kind_same d.kind kind t))
 
   -- the dialogue opens, on a record of the records then
-  pub opens_sound : (es : List (ℕ × Record)) → rises (keys es) ≡ true → length es ≤ s.room → ((q : ℕ) → holds s.records q ≡ true → holds es q ≡ true) → length s.dialogues < 64 → busy s k kind ≡ false → holds es k ≡ true → Sound (record { records = es; room = s.room; dialogues = with_entry s.dialogues (s.last + 1) new; last = s.last + 1; several = s.several })
+  pub opens_sound : (es : List (ℕ × Record)) → rises (keys es) ≡ true → length es ≤ s.room → ((q : ℕ) → holds s.records q ≡ true → holds es q ≡ true) → length s.dialogues < 64 → busy s k kind ≡ false → holds es k ≡ true → Sound (record s { records = es; dialogues = with_entry s.dialogues (s.last + 1) new; last = s.last + 1 })
   opens_sound es rise fit stay free first stands = record {
     records_rise = rise;
     fitting = fit;
@@ -107,9 +107,9 @@ module _ {s : State} (sound : Sound s) (k : ℕ) (kept : Option Record) (room : 
   es = keep s.records k kept
 
   -- the plan is done, where it is not turned down
-  done_sound : (opens : Option Kind) → no_dialogue s opens ≡ None → ((kind : Kind) → opens ≡ Some kind → (busy s k kind ≡ false) × (holds es k ≡ true)) → Sound (record { records = es; room = s.room; dialogues = begun s k opens; last = last_after s opens; several = s.several })
+  done_sound : (opens : Option Kind) → no_dialogue s opens ≡ None → ((kind : Kind) → opens ≡ Some kind → (busy s k kind ≡ false) × (holds es k ≡ true)) → Sound (record s { records = es; dialogues = begun s k opens; last = last_after s opens })
   done_sound None free fair =
-      let t : State = record { records = es; room = s.room; dialogues = s.dialogues; last = s.last; several = s.several } in
+      let t : State = record s { records = es } in
       fewer_sound sound t (keep-rises s.records k kept sound.records_rise) (keep_fits s k kept sound room) (all_stay sound) refl (still_on_record sound t (all_stay sound) (keep-holds s.records k kept))
   done_sound (Some kind) free fair =
       let f = fair kind refl in

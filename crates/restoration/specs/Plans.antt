@@ -54,8 +54,8 @@ roaming_number_plan several old busy = record { kept = made_for_call several old
 -- how to reach a subscriber: by the indicators of data and radio; `unknown` is the reply where that is not known
 abbrev pub reach_by : Reply → Indicator → Indicator → Plan
 reach_by unknown NotConfirmed radio = reply_only unknown
-reach_by unknown Confirmed NotConfirmed = record { kept = None; reply = Done; handling = Search; opens = None }
-reach_by unknown Confirmed Confirmed = record { kept = None; reply = Done; handling = Page; opens = None }
+reach_by unknown Confirmed NotConfirmed = record (reply_only Done) { handling = Search }
+reach_by unknown Confirmed Confirmed = record (reply_only Done) { handling = Page }
 
 abbrev pub reach_plan : Reply → Option Record → Plan
 reach_plan unknown None = reply_only unknown
@@ -63,7 +63,7 @@ reach_plan unknown (Some v) = reach_by unknown v.«data» v.radio
 
 -- a contact: authentication decides, and a making comes before it
 abbrev pub contact_plan : Option Record → Record → Auth → Place → Bool → Bool → Plan
-contact_plan only v Failed place wanted busy = record { kept = only; reply = IllegalSubscriber; handling = Nothing; opens = None }
+contact_plan only v Failed place wanted busy = record (reply_only IllegalSubscriber) { kept = only }
 contact_plan only v Passed place wanted busy = record { kept = Some (contacted v place); reply = Done; handling = Nothing; opens = unless_open wanted busy UpdateLocation }
 
 abbrev pub at_place : ℕ → ℕ → Place
@@ -71,7 +71,7 @@ at_place msc area = record { msc = Some msc; area = Some area }
 
 -- another MSC, the same area
 abbrev pub moved_to : ℕ → Place → Place
-moved_to msc place = record { msc = Some msc; area = place.area }
+moved_to msc place = record place { msc = Some msc }
 
 abbrev pub access_plan : Option Record → Auth → ℕ → ℕ → Bool → Plan
 access_plan None auth msc area busy = reply_only UnidentifiedSubscriber
@@ -92,7 +92,7 @@ registration_plan old auth msc area busy =
 -- the home register opens a stand-alone update: one at a time, for a subscriber that is known
 abbrev pub open_update : Bool → Plan
 open_update true = reply_only SystemFailure
-open_update false = record { kept = None; reply = Done; handling = Nothing; opens = Some StandAlone }
+open_update false = record (reply_only Done) { opens = Some StandAlone }
 
 abbrev pub update_plan : Option Record → Bool → Plan
 update_plan None busy = reply_only UnidentifiedSubscriber
@@ -150,9 +150,5 @@ ended kind true subscriber (Some v) = Some (well_ended kind subscriber v)
 ended kind false subscriber (Some v) = ill_ended kind v
 
 abbrev pub end_plan : Dialogue → Outcome → Option Record → Plan
-end_plan d outcome old = record {
-  kept = ended d.kind (is_good d outcome old) (resulting_data d.kind d.draft old) old;
-  reply = end_reply (is_good d outcome old) (is_well outcome) (is_rejected d.stage);
-  handling = Nothing;
-  opens = None;
-}
+end_plan d outcome old =
+    record (reply_only (end_reply (is_good d outcome old) (is_well outcome) (is_rejected d.stage))) { kept = ended d.kind (is_good d outcome old) (resulting_data d.kind d.draft old) old }

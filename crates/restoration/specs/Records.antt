@@ -33,14 +33,14 @@ only_made (Some v) = None
 
 -- in radio contact, at a place
 abbrev pub contacted : Record → Place → Record
-contacted v place = record { radio = Confirmed; «data» = v.«data»; location = v.location; place = place; subscriber = v.subscriber }
+contacted v place = record v { radio = Confirmed; place = place }
 
 abbrev pub relocated : Indicator → Record → Record
-relocated location v = record { radio = v.radio; «data» = v.«data»; location = location; place = v.place; subscriber = v.subscriber }
+relocated location v = record v { location = location }
 
 -- subscriber data confirmed, and no longer confirmed
 abbrev pub supplied : SubscriberData → Record → Record
-supplied subscriber v = record { radio = v.radio; «data» = Confirmed; location = v.location; place = v.place; subscriber = subscriber }
+supplied subscriber v = record v { «data» = Confirmed; subscriber = subscriber }
 
 abbrev pub doubted : Record → Record
-doubted v = record { radio = v.radio; «data» = NotConfirmed; location = v.location; place = v.place; subscriber = v.subscriber }
+doubted v = record v { «data» = NotConfirmed }

@@ -34,7 +34,7 @@ use Rattle.restoration.specs.State.{State}
 
 -- a state with other records or other dialogues
 abbrev pub with_dialogues : State → Open → State
-with_dialogues s ds = record { records = s.records; room = s.room; dialogues = ds; last = s.last; several = s.several }
+with_dialogues s ds = record s { dialogues = ds }
 
 -- carrying a plan out: the record to keep
 abbrev pub keep : List (ℕ × Record) → ℕ → Option Record → List (ℕ × Record)
@@ -75,7 +75,7 @@ same_if_refused None s t = t
 same_if_refused (Some e) s t = s
 
 abbrev pub done : State → ℕ → Plan → State
-done s k p = record { records = keep s.records k p.kept; room = s.room; dialogues = begun s k p.opens; last = last_after s p.opens; several = s.several }
+done s k p = record s { records = keep s.records k p.kept; dialogues = begun s k p.opens; last = last_after s p.opens }
 
 abbrev pub planned_answer : State → ℕ → Plan → Result Answer Refusal
 planned_answer s k p = unless_refused (refusal s k p) (answer_of p k (opened_by s p.opens))
@@ -157,7 +157,7 @@ end_left s (Ok met.Sent) n d how = s
 end_left s (Ok met.Withdrawn) n d how = s
 end_left s (Ok (met.Taken ignored)) n d how = s
 end_left s (Ok met.Rejected) n d how = s
-end_left s (Ok met.Ended) n d how = record { records = keep s.records d.imsi (end_of s d how).kept; room = s.room; dialogues = without s.dialogues n; last = s.last; several = s.several }
+end_left s (Ok met.Ended) n d how = record s { records = keep s.records d.imsi (end_of s d how).kept; dialogues = without s.dialogues n }
 end_left s (Err e) n d how = s
 
 abbrev pub end_on : State → ℕ → Option Dialogue → Outcome → State
@@ -178,18 +178,18 @@ abbrev pub reset_answer : State → ℕ → ℕ → Answer
 reset_answer s digits value = plain Done none_ignored (Records (tally (concerns digits value) s.records))
 
 abbrev pub reset_after : State → ℕ → ℕ → State
-reset_after s digits value = record { records = each (reset_one digits value) s.records; room = s.room; dialogues = s.dialogues; last = s.last; several = s.several }
+reset_after s digits value = record s { records = each (reset_one digits value) s.records }
 
 -- Cancel: the record and the subscriber's dialogues go
 abbrev pub cancel_answer : State → ℕ → Answer
 cancel_answer s k = plain (cond (holds s.records k) Done UnidentifiedSubscriber) none_ignored (Subscriber k)
 
 abbrev pub cancel_after : State → ℕ → State
-cancel_after s k = cond (holds s.records k) (record { records = without s.records k; room = s.room; dialogues = only (other_imsi k) s.dialogues; last = s.last; several = s.several }) s
+cancel_after s k = cond (holds s.records k) (record s { records = without s.records k; dialogues = only (other_imsi k) s.dialogues }) s
 
 -- Restart: records and dialogues go, and numbers go on
 abbrev pub restart_after : State → State
-restart_after s = record { records = []; room = s.room; dialogues = []; last = s.last; several = s.several }
+restart_after s = record s { records = []; dialogues = [] }
 
 -- operands within their ranges
 abbrev pub is_imsi : ℕ → Bool
