@@ -2,8 +2,9 @@
 use Rattle.std.proofs.Common.{◌≡◌, ℕ, zero, suc, ◌+◌, ◌^◌, ◌<◌, ◌≤◌, cond, eqb, ltb, List, [], ◌∷◌, Some, None, Option, sym, refl, ap, ◌∙◌, subst, inl, inr, ⊎_elim, arith}
 use Rattle.std.proofs.lemmas.Bool.{cases_lt, cases_order}
 use Rattle.store.specs.Model.{first_from}
+use Rattle.std.specs.Option.{option_or}
 use Rattle.tree.specs.Order.{lesser, least}
-use Rattle.tree.specs.Tree.{Tree, leaf, fork, Inside, or, record_of, Distinct, pour}
+use Rattle.tree.specs.Tree.{Tree, leaf, fork, Inside, record_of, Distinct, pour}
 use Rattle.tree.proofs.Entries.{yes_eq, no_eq, yes_lt, no_lt, get, Sorted, get_nil, get_hit, get_cons, get-over, over_less}
 use Rattle.tree.proofs.NewKey.{get_tree}
 use Rattle.tree.proofs.Trees.{At, at_left, at_right, outside, sorted_pour}
@@ -13,7 +14,7 @@ module _ {V : Type 0} where
   abbrev pub next : ℕ → ℕ → ℕ → Tree V → Option ℕ
   next q h low leaf = None
   next q zero low (fork j k v l r) = None
-  next q (suc h) low (fork j k v l r) = cond (ltb q k) (lesser (Some k) (cond (ltb q (low + 2 ^ h)) (or (next q h low l) (least r)) (next q h (low + 2 ^ h) r))) (cond (ltb q (low + 2 ^ h)) (or (next q h low l) (least r)) (next q h (low + 2 ^ h) r))
+  next q (suc h) low (fork j k v l r) = cond (ltb q k) (lesser (Some k) (cond (ltb q (low + 2 ^ h)) (option_or (next q h low l) (least r)) (next q h (low + 2 ^ h) r))) (cond (ltb q (low + 2 ^ h)) (option_or (next q h low l) (least r)) (next q h (low + 2 ^ h) r))
 
   -- the first key from a number on, of a map as a function
   abbrev pub From : ℕ → (ℕ → Option V) → Option ℕ → Type 0
@@ -23,7 +24,7 @@ module _ {V : Type 0} where
   held : (o : Option V) (v : V) → o ≡ Some v → o ≡ None → ⊥
   held o v a b = let z : ◌≡◌ {A = ℕ} 0 1 = cc in omega arith
 
-  or-none : (a b : Option V) → or a b ≡ None → a ≡ None
+  or-none : (a b : Option V) → option_or a b ≡ None → a ≡ None
   or-none None b e = refl
   or-none (Some x) b e = e
 
@@ -57,20 +58,20 @@ module _ {V : Type 0} where
   from_skip lo k v b (Some e) lt p = (p.0, λ z. p.1 (sym (no_eq e k _ _ (omega (arith, p.0))) ∙ z), λ x a l2. no_eq x k _ _ (omega arith) ∙ p.2 x a l2)
 
   -- two maps, one below the other
-  pub from_or : (lo mid : ℕ) (f g : ℕ → Option V) (a b : Option ℕ) → ((x : ℕ) → mid ≤ x → f x ≡ None) → ((x : ℕ) → x < mid → g x ≡ None) → From lo f a → From lo g b → From lo (λ x. or (f x) (g x)) (or a b)
-  from_or lo mid f g None None hf hg p q = λ x le. ap (λ (y : Option V). or y (g x)) (p x le) ∙ q x le
-  from_or lo mid f g None (Some e) hf hg p q = (q.0, λ z. q.1 (sym (ap (λ (y : Option V). or y (g e)) (p e q.0)) ∙ z), λ x le lt. ap (λ (y : Option V). or y (g x)) (p x le) ∙ q.2 x le lt)
+  pub from_or : (lo mid : ℕ) (f g : ℕ → Option V) (a b : Option ℕ) → ((x : ℕ) → mid ≤ x → f x ≡ None) → ((x : ℕ) → x < mid → g x ≡ None) → From lo f a → From lo g b → From lo (λ x. option_or (f x) (g x)) (option_or a b)
+  from_or lo mid f g None None hf hg p q = λ x le. ap (λ (y : Option V). option_or y (g x)) (p x le) ∙ q x le
+  from_or lo mid f g None (Some e) hf hg p q = (q.0, λ z. q.1 (sym (ap (λ (y : Option V). option_or y (g e)) (p e q.0)) ∙ z), λ x le lt. ap (λ (y : Option V). option_or y (g x)) (p x le) ∙ q.2 x le lt)
   from_or lo mid f g (Some e) b hf hg p q =
       let em : e < mid = ⊎_elim (λ w. w) (λ w. absurd (p.1 (hf e w))) (cases_lt e mid) in
-      (p.0, λ z. p.1 (or-none (f e) (g e) z), λ x le lt. ap (λ (y : Option V). or y (g x)) (p.2 x le lt) ∙ hg x (omega arith))
+      (p.0, λ z. p.1 (or-none (f e) (g e) z), λ x le lt. ap (λ (y : Option V). option_or y (g x)) (p.2 x le lt) ∙ hg x (omega arith))
 
   pub from_least : (h low : ℕ) (t : Tree V) → Inside h low t → Distinct t → From 0 (λ x. record_of x t) (least t)
   from_least h low leaf inn o = λ x le. refl
   from_least zero low (fork j k v l r) inn o =
-      from_pick 0 k v (λ x. or (record_of x l) (record_of x r)) (or (least l) (least r)) (ap (λ (y : Option V). or y (record_of k r)) o.0 ∙ o.1) (omega arith)
-      (subst (λ (y : Tree V). From 0 (λ x. or (record_of x y) (record_of x r)) (or (least y) (least r))) (sym inn.1) (subst (λ (y : Tree V). From 0 (λ x. record_of x y) (least y)) (sym inn.2) (λ x le. refl)))
+      from_pick 0 k v (λ x. option_or (record_of x l) (record_of x r)) (option_or (least l) (least r)) (ap (λ (y : Option V). option_or y (record_of k r)) o.0 ∙ o.1) (omega arith)
+      (subst (λ (y : Tree V). From 0 (λ x. option_or (record_of x y) (record_of x r)) (option_or (least y) (least r))) (sym inn.1) (subst (λ (y : Tree V). From 0 (λ x. record_of x y) (least y)) (sym inn.2) (λ x le. refl)))
   from_least (suc h) low (fork j k v l r) inn o =
-      from_pick 0 k v (λ x. or (record_of x l) (record_of x r)) (or (least l) (least r)) (ap (λ (y : Option V). or y (record_of k r)) o.0 ∙ o.1) (omega arith)
+      from_pick 0 k v (λ x. option_or (record_of x l) (record_of x r)) (option_or (least l) (least r)) (ap (λ (y : Option V). option_or y (record_of k r)) o.0 ∙ o.1) (omega arith)
       (from_or 0 (low + 2 ^ h) (λ x. record_of x l) (λ x. record_of x r) (least l) (least r) (λ x w. outside x h low l inn.2 (inr w)) (λ x w. outside x h (low + 2 ^ h) r inn.3 (inl w)) (from_least h low l inn.2 o.2) (from_least h (low + 2 ^ h) r inn.3 o.3))
 
   -- nothing lies below
@@ -84,12 +85,12 @@ module _ {V : Type 0} where
   from_next q (suc h) low (fork j k v l r) inn o a =
       let ihl : At q h low → From (suc q) (λ x. record_of x l) (next q h low l) = λ b. from_next q h low l inn.2 o.2 b in
       let ihr : At q h (low + 2 ^ h) → From (suc q) (λ x. record_of x r) (next q h (low + 2 ^ h) r) = λ b. from_next q h (low + 2 ^ h) r inn.3 o.3 b in ⊎_elim
-      (λ lt. subst (From (suc q) (λ x. record_of x (fork j k v l r))) (sym (up lt)) (from_pick (suc q) k v (λ x. or (record_of x l) (record_of x r)) rest none (omega arith) (below ihl ihr)))
-      (λ ge. subst (From (suc q) (λ x. record_of x (fork j k v l r))) (sym (skip ge)) (from_skip (suc q) k v (λ x. or (record_of x l) (record_of x r)) rest (omega arith) (below ihl ihr)))
+      (λ lt. subst (From (suc q) (λ x. record_of x (fork j k v l r))) (sym (up lt)) (from_pick (suc q) k v (λ x. option_or (record_of x l) (record_of x r)) rest none (omega arith) (below ihl ihr)))
+      (λ ge. subst (From (suc q) (λ x. record_of x (fork j k v l r))) (sym (skip ge)) (from_skip (suc q) k v (λ x. option_or (record_of x l) (record_of x r)) rest (omega arith) (below ihl ihr)))
       (cases_lt q k)
     where
       rest : Option ℕ
-      rest = cond (ltb q (low + 2 ^ h)) (or (next q h low l) (least r)) (next q h (low + 2 ^ h) r)
+      rest = cond (ltb q (low + 2 ^ h)) (option_or (next q h low l) (least r)) (next q h (low + 2 ^ h) r)
 
       up : q < k → next q (suc h) low (fork j k v l r) ≡ lesser (Some k) rest
       up lt = yes_lt q k _ _ lt
@@ -97,8 +98,8 @@ module _ {V : Type 0} where
       skip : k ≤ q → next q (suc h) low (fork j k v l r) ≡ rest
       skip ge = no_lt q k _ _ ge
 
-      none : or (record_of k l) (record_of k r) ≡ None
-      none = ap (λ (y : Option V). or y (record_of k r)) o.0 ∙ o.1
+      none : option_or (record_of k l) (record_of k r) ≡ None
+      none = ap (λ (y : Option V). option_or y (record_of k r)) o.0 ∙ o.1
 
       hl : (x : ℕ) → low + 2 ^ h ≤ x → record_of x l ≡ None
       hl x w = outside x h low l inn.2 (inr w)
@@ -106,11 +107,11 @@ module _ {V : Type 0} where
       hr : (x : ℕ) → x < low + 2 ^ h → record_of x r ≡ None
       hr x w = outside x h (low + 2 ^ h) r inn.3 (inl w)
 
-      below : (At q h low → From (suc q) (λ x. record_of x l) (next q h low l)) → (At q h (low + 2 ^ h) → From (suc q) (λ x. record_of x r) (next q h (low + 2 ^ h) r)) → From (suc q) (λ x. or (record_of x l) (record_of x r)) rest
+      below : (At q h low → From (suc q) (λ x. record_of x l) (next q h low l)) → (At q h (low + 2 ^ h) → From (suc q) (λ x. record_of x r) (next q h (low + 2 ^ h) r)) → From (suc q) (λ x. option_or (record_of x l) (record_of x r)) rest
       below ihl ihr = ⊎_elim
-          (λ lt. subst (From (suc q) (λ x. or (record_of x l) (record_of x r))) (sym (yes_lt q (low + 2 ^ h) _ _ lt))
+          (λ lt. subst (From (suc q) (λ x. option_or (record_of x l) (record_of x r))) (sym (yes_lt q (low + 2 ^ h) _ _ lt))
           (from_or (suc q) (low + 2 ^ h) (λ x. record_of x l) (λ x. record_of x r) (next q h low l) (least r) hl hr (ihl (at_left q h low a lt)) (from_raise (suc q) (low + 2 ^ h) (λ x. record_of x r) (least r) (omega arith) hr (from_least h (low + 2 ^ h) r inn.3 o.3))))
-          (λ ge. subst (From (suc q) (λ x. or (record_of x l) (record_of x r))) (sym (no_lt q (low + 2 ^ h) _ _ ge))
+          (λ ge. subst (From (suc q) (λ x. option_or (record_of x l) (record_of x r))) (sym (no_lt q (low + 2 ^ h) _ _ ge))
           (from_or (suc q) (low + 2 ^ h) (λ x. record_of x l) (λ x. record_of x r) None (next q h (low + 2 ^ h) r) hl hr (λ x le. hl x (omega arith)) (ihr (at_right q h low a ge))))
           (cases_lt q (low + 2 ^ h))
 

@@ -2,11 +2,12 @@
 use Rattle.std.proofs.Common.{◌≡◌, ℕ, zero, suc, ◌+◌, ◌^◌, ◌<◌, ◌≤◌, cond, eqb, ltb, List, Some, None, Option, sym, refl, ap, ◌∙◌, subst, inl, inr, ⊎_elim, arith}
 use Rattle.std.proofs.lemmas.Bool.{cases_lt, cases_eq}
 use Rattle.std.specs.List.{slice_get}
+use Rattle.std.specs.Option.{option_or}
 use Rattle.tree.specs.declared.links.Link.{Link}
 use Rattle.tree.specs.declared.links.Side.{Side}
 use Rattle.tree.specs.declared.links.Side.TheVariants.{Left, Right}
 use Rattle.tree.specs.declared.node.Node.{Node}
-use Rattle.tree.specs.Tree.{Tree, leaf, fork, node_of, link, Laid, Inside, place_of, last_link, occurs, size, one, or, record_of, Distinct, on}
+use Rattle.tree.specs.Tree.{Tree, leaf, fork, node_of, link, Laid, Inside, place_of, last_link, occurs, size, one, record_of, Distinct, on}
 use Rattle.tree.specs.Writes.{with_link}
 use Rattle.tree.proofs.Entries.{yes_eq, no_eq, yes_lt, no_lt}
 use Rattle.tree.proofs.Trees.{or-none, one_same, At, at_left, at_right, outside, same}
@@ -79,9 +80,9 @@ module _ {V : Type 0} where
   val_end s q zero low (fork j k v l r) inn a = refl
   val_end s q (suc h) low (fork j k v l r) inn a = elim (way s q h low j k v l r) [
     | here e en pu la lo ↦ ap (record_of q) pu
-    | left ne w en pu la lo ↦ ap (record_of q) pu ∙ no_eq q k _ _ (λ e. ne (sym e)) ∙ ap (λ (x : Option V). or x (record_of q r)) (val_end s q h low l inn.2 (at_left q h low a w))
-        ∙ ap (or (record_of q s)) (outside q h (low + 2 ^ h) r inn.3 (inl w)) ∙ or-none (record_of q s)
-    | right ne w en pu la lo ↦ ap (record_of q) pu ∙ no_eq q k _ _ (λ e. ne (sym e)) ∙ ap (λ (x : Option V). or x (record_of q (put_at s q h (low + 2 ^ h) r))) (outside q h low l inn.2 (inr w))
+    | left ne w en pu la lo ↦ ap (record_of q) pu ∙ no_eq q k _ _ (λ e. ne (sym e)) ∙ ap (λ (x : Option V). option_or x (record_of q r)) (val_end s q h low l inn.2 (at_left q h low a w))
+        ∙ ap (option_or (record_of q s)) (outside q h (low + 2 ^ h) r inn.3 (inl w)) ∙ or-none (record_of q s)
+    | right ne w en pu la lo ↦ ap (record_of q) pu ∙ no_eq q k _ _ (λ e. ne (sym e)) ∙ ap (λ (x : Option V). option_or x (record_of q (put_at s q h (low + 2 ^ h) r))) (outside q h low l inn.2 (inr w))
         ∙ val_end s q h (low + 2 ^ h) r inn.3 (at_right q h low a w)
   ]
 
@@ -90,8 +91,8 @@ module _ {V : Type 0} where
   val_other x s q zero low (fork j k v l r) f = f
   val_other x s q (suc h) low (fork j k v l r) f = elim (way s q h low j k v l r) [
     | here e en pu la lo ↦ ap (record_of x) pu ∙ f ∙ ap (record_of x) en
-    | left ne w en pu la lo ↦ ap (record_of x) pu ∙ ap (λ (y : Option V). cond (eqb x k) (Some v) (or y (record_of x r))) (val_other x s q h low l (f ∙ ap (record_of x) en))
-    | right ne w en pu la lo ↦ ap (record_of x) pu ∙ ap (λ (y : Option V). cond (eqb x k) (Some v) (or (record_of x l) y)) (val_other x s q h (low + 2 ^ h) r (f ∙ ap (record_of x) en))
+    | left ne w en pu la lo ↦ ap (record_of x) pu ∙ ap (λ (y : Option V). cond (eqb x k) (Some v) (option_or y (record_of x r))) (val_other x s q h low l (f ∙ ap (record_of x) en))
+    | right ne w en pu la lo ↦ ap (record_of x) pu ∙ ap (λ (y : Option V). cond (eqb x k) (Some v) (option_or (record_of x l) y)) (val_other x s q h (low + 2 ^ h) r (f ∙ ap (record_of x) en))
   ]
 
   pub once-at : (s : Tree V) (q h low : ℕ) (t : Tree V) → Distinct t → Distinct s → ((x : ℕ) → (x ≡ q → ⊥) → record_of x s ≡ record_of x (end q h low t)) → Distinct (put_at s q h low t)

@@ -3,13 +3,14 @@ use Rattle.std.proofs.Common.{◌≡◌, ℕ, zero, suc, ◌+◌, ◌^◌, ◌<�
 use native.Mathlib.Nat.{two-pow-succ}
 use Rattle.std.proofs.lemmas.Bool.{cases_eq}
 use Rattle.std.specs.List.{slice_get}
+use Rattle.std.specs.Option.{option_or}
 use Rattle.tree.specs.declared.links.Link.{Link}
 use Rattle.tree.specs.declared.links.Side.{Side}
 use Rattle.tree.specs.declared.links.Side.TheVariants.{Left, Right}
 use Rattle.tree.specs.declared.node.Node.{Node}
 use Rattle.tree.specs.Feet.{Foot, Bottom}
-use Rattle.tree.specs.Tree.{Tree, leaf, fork, node_of, link, Laid, Inside, occurs, size, one, or, record_of, Distinct, Levels, on}
-use Rattle.tree.specs.Writes.{with_link}
+use Rattle.tree.specs.Tree.{Tree, leaf, fork, node_of, link, Laid, Inside, occurs, size, one, record_of, Distinct, Levels, on}
+use Rattle.tree.specs.Writes.{child, with_link}
 use Rattle.tree.proofs.Ends.{first}
 use Rattle.tree.proofs.Entries.{yes_eq, no_eq}
 use Rattle.tree.proofs.Trees.{one_same, At, outside, same, nth_lt}
@@ -50,7 +51,7 @@ module _ {V : Type 0} where
       let i = foot_in h (low + 2 ^ h) r (Some (on j Right)) m km vm f.0 u f.1 inn.3 in let a : low + 2 ^ h ≤ km = i.1.0 in let b : km < low + 2 ^ h + 2 ^ h = i.1.1 in let two = two-pow-succ h in
       (subst (Inside (suc h) low) (sym f.2) (inn.0, inn.1, inn.2, i.0), (omega arith, omega (arith, two)))
 
-  or-cond : (b : Bool) (w : V) (x y : Option V) → or (cond b (Some w) x) y ≡ cond b (Some w) (or x y)
+  or-cond : (b : Bool) (w : V) (x y : Option V) → option_or (cond b (Some w) x) y ≡ cond b (Some w) (option_or x y)
   or-cond true w x y = refl
   or-cond false w x y = refl
 
@@ -62,7 +63,7 @@ module _ {V : Type 0} where
       → (record_of x t ≡ cond (eqb x km) (Some vm) (record_of x c)) × (record_of km c ≡ None)
   foot_val x h low leaf d m km vm c u f inn o = absurd f
   foot_val x h low (fork j k v l r) d m km vm c u (inl f) inn o = (
-    ap (λ (y : Tree V). cond (eqb x k) (Some v) (or (record_of x y) (record_of x r))) f.0 ∙ ap (λ (y : Tree V). cond (eqb x k) (Some v) (record_of x y)) f.1
+    ap (λ (y : Tree V). cond (eqb x k) (Some v) (option_or (record_of x y) (record_of x r))) f.0 ∙ ap (λ (y : Tree V). cond (eqb x k) (Some v) (record_of x y)) f.1
         ∙ ap (λ (y : ℕ). cond (eqb x y) (Some v) None) (sym f.3) ∙ ap (λ (y : V). cond (eqb x km) (Some y) None) (sym f.4) ∙ ap (λ (y : Tree V). cond (eqb x km) (Some vm) (record_of x y)) (sym f.5),
     ap (record_of km) f.5,
   )
@@ -75,11 +76,11 @@ module _ {V : Type 0} where
       let ihk = foot_val k h low l (Some (on j Left)) m km vm l' u f.1 inn.2 o.2 in
       let ne : km ≡ k → ⊥ = λ e. none-some vm (sym o.0 ∙ ihk.0 ∙ yes_eq k km _ _ (sym e)) in
       let go = ⊎_elim
-      (λ (e : x ≡ km). ap (λ (y : Option V). cond (eqb x k) (Some v) (or y (record_of x r))) ih.0 ∙ no_eq x k _ _ (λ g. ne (sym e ∙ g)) ∙ ap (λ (y : Option V). or y (record_of x r)) (yes_eq x km _ _ e) ∙ sym (yes_eq x km _ _ e))
-      (λ (e : x ≡ km → ⊥). ap (λ (y : Option V). cond (eqb x k) (Some v) (or y (record_of x r))) (ih.0 ∙ no_eq x km _ _ e) ∙ sym (no_eq x km _ _ e))
+      (λ (e : x ≡ km). ap (λ (y : Option V). cond (eqb x k) (Some v) (option_or y (record_of x r))) ih.0 ∙ no_eq x k _ _ (λ g. ne (sym e ∙ g)) ∙ ap (λ (y : Option V). option_or y (record_of x r)) (yes_eq x km _ _ e) ∙ sym (yes_eq x km _ _ e))
+      (λ (e : x ≡ km → ⊥). ap (λ (y : Option V). cond (eqb x k) (Some v) (option_or y (record_of x r))) (ih.0 ∙ no_eq x km _ _ e) ∙ sym (no_eq x km _ _ e))
       (cases_eq x km) in (
         go ∙ ap (λ (y : Tree V). cond (eqb x km) (Some vm) (record_of x y)) (sym f.2),
-        ap (record_of km) f.2 ∙ no_eq km k _ _ ne ∙ ap (λ (y : Option V). or y (record_of km r)) ih.1 ∙ outside km h (low + 2 ^ h) r inn.3 (inl at.1),
+        ap (record_of km) f.2 ∙ no_eq km k _ _ ne ∙ ap (λ (y : Option V). option_or y (record_of km r)) ih.1 ∙ outside km h (low + 2 ^ h) r inn.3 (inl at.1),
       )
   foot_val x (suc h) low (fork j k v l r) d m km vm c u (inr (inr f)) inn o =
       let r' : Tree V = f.0 in
@@ -90,11 +91,11 @@ module _ {V : Type 0} where
       let out : record_of km l ≡ None = outside km h low l inn.2 (inr at.0) in
       let go = ⊎_elim
       (λ (e : x ≡ km). let ox : record_of x l ≡ None = ap (λ (y : ℕ). record_of y l) e ∙ out in
-      ap (λ (y : Option V). cond (eqb x k) (Some v) (or (record_of x l) y)) ih.0 ∙ no_eq x k _ _ (λ g. ne (sym e ∙ g)) ∙ ap (λ (y : Option V). or y (cond (eqb x km) (Some vm) (record_of x r'))) ox ∙ yes_eq x km _ _ e ∙ sym (yes_eq x km _ _ e))
-      (λ (e : x ≡ km → ⊥). ap (λ (y : Option V). cond (eqb x k) (Some v) (or (record_of x l) y)) (ih.0 ∙ no_eq x km _ _ e) ∙ sym (no_eq x km _ _ e))
+      ap (λ (y : Option V). cond (eqb x k) (Some v) (option_or (record_of x l) y)) ih.0 ∙ no_eq x k _ _ (λ g. ne (sym e ∙ g)) ∙ ap (λ (y : Option V). option_or y (cond (eqb x km) (Some vm) (record_of x r'))) ox ∙ yes_eq x km _ _ e ∙ sym (yes_eq x km _ _ e))
+      (λ (e : x ≡ km → ⊥). ap (λ (y : Option V). cond (eqb x k) (Some v) (option_or (record_of x l) y)) (ih.0 ∙ no_eq x km _ _ e) ∙ sym (no_eq x km _ _ e))
       (cases_eq x km) in (
         go ∙ ap (λ (y : Tree V). cond (eqb x km) (Some vm) (record_of x y)) (sym f.2),
-        ap (record_of km) f.2 ∙ no_eq km k _ _ ne ∙ ap (λ (y : Option V). or y (record_of km r')) out ∙ ih.1,
+        ap (record_of km) f.2 ∙ no_eq km k _ _ ne ∙ ap (λ (y : Option V). option_or y (record_of km r')) out ∙ ih.1,
       )
 
   -- a key that was not there is not there without the fork
@@ -226,7 +227,7 @@ module _ {V : Type 0} where
       (λ e. let z = e ∙ ap link hi.1 in let y : ◌≡◌ {A = ℕ} 0 1 = cc in absurd (omega arith)) e
   down_high (suc h) at k v l r i hi e = (h, refl, hi.0, hi.1)
 
-  pub down_left : {ns : List (Node V)} {bits d at i : ℕ} {under start : Option Link} {s : Tree V} (n : Node V) → Down ns bits d at under s start → slice_get ns at ≡ Some n → n.left ≡ Some i → Down ns bits (d + 1) i (Some (on at Left)) s start
+  down_left : {ns : List (Node V)} {bits d at i : ℕ} {under start : Option Link} {s : Tree V} (n : Node V) → Down ns bits d at under s start → slice_get ns at ≡ Some n → n.left ≡ Some i → Down ns bits (d + 1) i (Some (on at Left)) s start
   down_left {ns} {bits} {d} {at} {i} {under} {start} {s} n w e nl =
       let a = forked ns at w.t w.at-is w.is in
       let node : slice_get ns at ≡ Some (node_of a.k a.v (link a.l) (link a.r)) = a.node in
@@ -243,7 +244,7 @@ module _ {V : Type 0} where
         back = λ m km vm c u f. w.back m km vm (fork at a.k a.v c a.r) u (subst (λ (x : Tree V). Foot x under m km vm (fork at a.k a.v c a.r) u) (sym a.is) (inr (inl (c, f, refl))));
       }
 
-  pub down_right : {ns : List (Node V)} {bits d at i : ℕ} {under start : Option Link} {s : Tree V} (n : Node V) → Down ns bits d at under s start → slice_get ns at ≡ Some n → n.right ≡ Some i → Down ns bits (d + 1) i (Some (on at Right)) s start
+  down_right : {ns : List (Node V)} {bits d at i : ℕ} {under start : Option Link} {s : Tree V} (n : Node V) → Down ns bits d at under s start → slice_get ns at ≡ Some n → n.right ≡ Some i → Down ns bits (d + 1) i (Some (on at Right)) s start
   down_right {ns} {bits} {d} {at} {i} {under} {start} {s} n w e nl =
       let a = forked ns at w.t w.at-is w.is in
       let node : slice_get ns at ≡ Some (node_of a.k a.v (link a.l) (link a.r)) = a.node in
@@ -259,6 +260,11 @@ module _ {V : Type 0} where
         high = hi.3;
         back = λ m km vm c u f. w.back m km vm (fork at a.k a.v a.l c) u (subst (λ (x : Tree V). Foot x under m km vm (fork at a.k a.v a.l c) u) (sym a.is) (inr (inr (c, f, refl))));
       }
+
+  -- a turn to a side on which there is a child
+  pub down_on : {ns : List (Node V)} {bits d at i : ℕ} {under start : Option Link} {s : Tree V} (n : Node V) (e : Side) → Down ns bits d at under s start → slice_get ns at ≡ Some n → child e n ≡ Some i → Down ns bits (d + 1) i (Some (on at e)) s start
+  down_on n Left w at c = down_left n w at c
+  down_on n Right w at c = down_right n w at c
 
   pub down_begin : {ns : List (Node V)} {bits at : ℕ} {under : Option Link} (s : Tree V) → Some at ≡ link s → Laid ns s → Levels bits s → Down ns bits 0 at under s under
   down_begin {bits = bits} s e is hi = record { h = bits; t = s; depth = omega arith; at-is = e; is = is; high = hi; back = λ m km vm c u f. record { km = km; vm = vm; c = c; foot = f } }
@@ -287,7 +293,7 @@ module _ {V : Type 0} where
   in_crown (suc h) low km vm (fork j k v l r) inn a = (a.0, a.1, inn.2, inn.3)
 
   -- a fork of a key, and what is below once it holds another key
-  or_both : (x y : Option V) → or x y ≡ None → (x ≡ None) × (y ≡ None)
+  or_both : (x y : Option V) → option_or x y ≡ None → (x ≡ None) × (y ≡ None)
   or_both None y e = (refl, e)
   or_both (Some x) y e = none-some x (sym e)
 
@@ -306,7 +312,7 @@ module _ {V : Type 0} where
       let ne : km ≡ q → ⊥ = λ g. none-some v (sym ck ∙ yes_eq km q _ _ g) in
       let both = or_both (record_of km l') (record_of km r') (sym (no_eq km q _ _ ne) ∙ ck) in
       record {
-        gone = ap (record_of q) cr ∙ no_eq q km _ _ (λ g. ne (sym g)) ∙ ap (λ (y : Option V). or y (record_of q r')) oc.0 ∙ oc.1;
+        gone = ap (record_of q) cr ∙ no_eq q km _ _ (λ g. ne (sym g)) ∙ ap (λ (y : Option V). option_or y (record_of q r')) oc.0 ∙ oc.1;
         others = λ x xq. ap (record_of x) cr ∙ ap (λ (y : Option V). cond (eqb x km) (Some vm) y) (sym (no_eq x q _ _ xq)) ∙ ap (λ (y : Tree V). cond (eqb x km) (Some vm) (record_of x y)) (sym e) ∙ sym (fv x).0;
         once = subst Distinct (sym cr) (both.0, both.1, oc.2, oc.3);
       }
@@ -315,6 +321,6 @@ module _ {V : Type 0} where
       → Crowned q km vm (fork j q v l r) c
   crowned h low j q v l r d m km vm c u (inl f) inn o =
       let e : crown km vm c ≡ leaf = ap (crown km vm) f.5 in
-      record { gone = ap (record_of q) e; others = λ x ne. ap (record_of x) e ∙ sym (no_eq x q _ _ ne ∙ ap (λ (y : Tree V). or (record_of x y) (record_of x r)) f.0 ∙ ap (record_of x) f.1); once = subst Distinct (sym e) tt }
+      record { gone = ap (record_of q) e; others = λ x ne. ap (record_of x) e ∙ sym (no_eq x q _ _ ne ∙ ap (λ (y : Tree V). option_or (record_of x y) (record_of x r)) f.0 ∙ ap (record_of x) f.1); once = subst Distinct (sym e) tt }
   crowned h low j q v l r d m km vm c u (inr (inl f)) inn o = crowned_fork h low j q v l r d m km vm c u f.0 r f.2 (inr (inl f)) inn o
   crowned h low j q v l r d m km vm c u (inr (inr f)) inn o = crowned_fork h low j q v l r d m km vm c u l f.0 f.2 (inr (inr f)) inn o

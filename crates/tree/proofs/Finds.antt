@@ -1,15 +1,21 @@
 -- What the walk to a key finds. Assumes nothing.
-use Rattle.std.proofs.Common.{◌≡◌, ℕ, ◌^◌, ◌<◌, true, List, [], Some, None, sym, refl, ap, ◌∙◌, subst, arith}
+use Rattle.std.proofs.Common.{◌≡◌, ℕ, ◌^◌, ◌<◌, true, List, [], length, Some, None, Option, Ok, Err, Result, sym, refl, ap, ◌∙◌, subst, arith}
 use Rattle.std.specs.List.{slice_get}
-use Rattle.store.specs.Model.{holds}
+use Rattle.std.specs.Result.{result_ok}
+use Rattle.std.proofs.lemmas.Option.{same_Some}
+use Rattle.store.specs.Model.{at, holds}
 use Rattle.tree.specs.declared.head.Head.{Head}
+use Rattle.tree.specs.declared.links.Link.{Link}
+use Rattle.tree.specs.declared.links.Place.{Place}
 use Rattle.tree.specs.declared.node.Node.{Node}
-use Rattle.tree.specs.State.{WellFormed, tree_of, stored}
+use Rattle.tree.specs.declared.search_tree.SearchTree.{SearchTree}
+use Rattle.tree.specs.State.{WellFormed, Held, Missing, Sought, tree_of, stored}
 use Rattle.tree.specs.Tree.{Tree, fork, node_of, link, Laid, Inside, place_of, pour, record_of}
 use Rattle.tree.proofs.Maps.{holds-some}
 use Rattle.tree.proofs.Entries.{yes_eq, get}
 use Rattle.tree.proofs.NewKey.{the_tree, get_tree}
-use Rattle.tree.proofs.Removal.{topped, val_is_end}
+use Rattle.tree.proofs.Removal.{topped, val_is_end, ready}
+use Rattle.tree.proofs.Sealed.{known}
 use Rattle.tree.proofs.Trees.{val_none}
 
 module _ {V : Type 0} where
@@ -41,3 +47,32 @@ module _ {V : Type 0} where
       let T = topped ns q h.width.bits 0 i u.t u.inside u.is u.once (ap (place_of q h.width.bits 0) (sym tr) ∙ lo) in
       let is0 : Laid ns (fork i q T.v T.l T.r) = subst (Laid ns) T.top T.is in
       holds-some q _ (stored ns h) (find_some ns h u q i _ lt lo is0.0)
+
+-- of a search tree, what the walk to a key says of its entries
+module _ {K V : Type 0} {limit : ℕ} (s : SearchTree K V limit) (q : ℕ) where
+  abbrev es : List (ℕ × V)
+  es = stored s.nodes.items s.head
+
+  short : q < limit → q < 2 ^ s.head.width.bits
+  short lt = omega (arith, (known s).digits.suffice, lt)
+
+  pub missing_none : (under : Option Link) → Missing limit s.nodes.items s.head q under → at es q ≡ None
+  missing_none under m = find_none s.nodes.items s.head (known s).wf q (short m.below) m.at-is
+
+  pub held_within : (p : Place) → Held limit s.nodes.items s.head q p → p.at < length s.nodes.items
+  held_within p m = (ready s.nodes.items s.head (known s).wf q p.at m.at-is).within
+
+  pub held_some : (p : Place) (n : Node V) → Held limit s.nodes.items s.head q p → slice_get s.nodes.items p.at ≡ Some n → at es q ≡ Some n.«record»
+  held_some p n m at = find_some s.nodes.items s.head (known s).wf q p.at n (short m.below) m.at-is at
+
+  pub held-holds : (p : Place) → Held limit s.nodes.items s.head q p → holds es q ≡ true
+  held-holds p m = found-holds s.nodes.items s.head (known s).wf q p.at (short m.below) m.at-is
+
+  -- the same of the walk's answer
+  pub sought_none : (r : Result Place (Option Link)) → Sought limit s.nodes.items s.head q r → result_ok r ≡ None → at es q ≡ None
+  sought_none (Ok p) m e = let z : ◌≡◌ {A = ℕ} 0 1 = cc in absurd (omega arith)
+  sought_none (Err under) m e = missing_none under m
+
+  pub sought_some : (r : Result Place (Option Link)) (p : Place) → Sought limit s.nodes.items s.head q r → result_ok r ≡ Some p → Held limit s.nodes.items s.head q p
+  sought_some (Ok p') p m e = subst (Held limit s.nodes.items s.head q) (same_Some p' p e) m
+  sought_some (Err under) p m e = let z : ◌≡◌ {A = ℕ} 0 1 = cc in absurd (omega arith)

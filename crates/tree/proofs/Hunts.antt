@@ -3,20 +3,24 @@ use Rattle.std.proofs.Common.{◌≡◌, ℕ, zero, suc, ◌+◌, ◌-◌, ◌*�
 use native.Mathlib.Nat.{two-pow-succ}
 use Rattle.std.proofs.lemmas.Bool.{cases_lt}
 use Rattle.std.specs.List.{slice_get}
+use Rattle.std.specs.Option.{option_or}
 use Rattle.store.specs.Model.{first_from}
 use Rattle.tree.specs.declared.head.Head.{Head}
 use Rattle.tree.specs.declared.node.Node.{Node}
 use Rattle.tree.specs.declared.order.Passed.{Passed}
-use Rattle.tree.specs.Order.{node_passed, lesser, least}
+use Rattle.tree.specs.declared.links.Side.{Side}
+use Rattle.tree.specs.declared.links.Side.TheVariants.{Left, Right}
+use Rattle.tree.specs.Order.{node_passed, side_passed, lesser, least}
+use Rattle.tree.specs.Writes.{child, low_on}
 use Rattle.tree.specs.State.{WellFormed, tree_of, stored}
-use Rattle.tree.specs.Tree.{Tree, leaf, fork, node_of, link, Laid, Inside, tree_below, or, Levels, Distinct}
+use Rattle.tree.specs.Tree.{Tree, leaf, fork, node_of, link, Laid, Inside, tree_below, Levels, Distinct}
 use Rattle.tree.proofs.Above.{next, next-is, least-is}
 use Rattle.tree.proofs.Entries.{yes_lt, no_lt}
 use Rattle.tree.proofs.Finds.{seekable}
 use Rattle.tree.proofs.NewKey.{the_tree}
 use Rattle.tree.proofs.Removal.{in_high, tree_high}
 use Rattle.tree.proofs.Trees.{or-none, nth_lt}
-use Rattle.tree.proofs.Turns.{forked, half_of, half_next}
+use Rattle.tree.proofs.Turns.{forked, half_of, half_next, went_left, went_right}
 
 pub lesser-none : (a : Option ℕ) → lesser a None ≡ a
 lesser-none None = refl
@@ -37,16 +41,16 @@ lesser_assoc (Some x) (Some y) (Some z) = ⊎_elim
     (cases_lt y z))
     (cases_lt x y)
 
-or_assoc : (a b c : Option ℕ) → or (or a b) c ≡ or a (or b c)
+or_assoc : (a b c : Option ℕ) → option_or (option_or a b) c ≡ option_or a (option_or b c)
 or_assoc None b c = refl
 or_assoc (Some x) b c = refl
 
 -- a number beside others is there
-or-lesser : (k : ℕ) (o c : Option ℕ) → or (lesser (Some k) o) c ≡ lesser (Some k) o
+or-lesser : (k : ℕ) (o c : Option ℕ) → option_or (lesser (Some k) o) c ≡ lesser (Some k) o
 or-lesser k None c = refl
 or-lesser k (Some x) c = ⊎_elim
-    (λ a. ap (λ (y : Option ℕ). or y c) (yes_lt k x _ _ a) ∙ sym (yes_lt k x _ _ a))
-    (λ a. ap (λ (y : Option ℕ). or y c) (no_lt k x _ _ a) ∙ sym (no_lt k x _ _ a))
+    (λ a. ap (λ (y : Option ℕ). option_or y c) (yes_lt k x _ _ a) ∙ sym (yes_lt k x _ _ a))
+    (λ a. ap (λ (y : Option ℕ). option_or y c) (no_lt k x _ _ a) ∙ sym (no_lt k x _ _ a))
     (cases_lt k x)
 
 inner : (h half : ℕ) → half ≡ half_of h → 1 ≤ h → (p : ℕ) × (h ≡ suc p) × (half ≡ 2 ^ p)
@@ -59,7 +63,7 @@ module _ {V : Type 0} where
   side leaf r = r
   side (fork j k v a b) r = fork j k v a b
 
-  side-link : (l r : Tree V) → or (link l) (link r) ≡ link (side l r)
+  side-link : (l r : Tree V) → option_or (link l) (link r) ≡ link (side l r)
   side-link leaf r = refl
   side-link (fork j k v a b) r = refl
 
@@ -67,9 +71,9 @@ module _ {V : Type 0} where
   side-is ns leaf r p q = q
   side-is ns (fork j k v a b) r p q = p
 
-  side-least : (l r : Tree V) → or (least l) (least r) ≡ least (side l r)
+  side-least : (l r : Tree V) → option_or (least l) (least r) ≡ least (side l r)
   side-least leaf r = refl
-  side-least (fork j k v a b) r = or-lesser k (or (least a) (least b)) (least r)
+  side-least (fork j k v a b) r = or-lesser k (option_or (least a) (least b)) (least r)
 
   side_high : (h : ℕ) (l r : Tree V) → Levels h l → Levels h r → Levels h (side l r)
   side_high h leaf r p q = q
@@ -133,7 +137,7 @@ module _ {V : Type 0} where
   fits_below zero j k v l r f = absurd f
   fits_below (suc h) j k v l r f = (h, refl, f.0, f.1)
 
-  pub sink_down : {ns : List (Node V)} {bits d i : ℕ} {at best goal : Option ℕ} (n : Node V) → Sink ns bits d at best goal → at ≡ Some i → slice_get ns i ≡ Some n → Sink ns bits (d + 1) (or n.left n.right) (lesser best (Some n.key)) goal
+  pub sink_down : {ns : List (Node V)} {bits d i : ℕ} {at best goal : Option ℕ} (n : Node V) → Sink ns bits d at best goal → at ≡ Some i → slice_get ns i ≡ Some n → Sink ns bits (d + 1) (option_or n.left n.right) (lesser best (Some n.key)) goal
   sink_down {ns} {bits} {d} {i} {at} {best} {goal} n w e nt =
       let a = forked ns i w.t (sym e ∙ w.at-is) w.is in
       let node : slice_get ns i ≡ Some (node_of a.k a.v (link a.l) (link a.r)) = a.node in
@@ -143,16 +147,16 @@ module _ {V : Type 0} where
         h = f.0;
         t = side a.l a.r;
         depth = omega (arith, w.depth, f.1);
-        at-is = ap (λ (x : Node V). or x.left x.right) (sym same) ∙ side-link a.l a.r;
+        at-is = ap (λ (x : Node V). option_or x.left x.right) (sym same) ∙ side-link a.l a.r;
         is = side-is ns a.l a.r a.left_is a.right_is;
         fits = side_fits f.0 a.l a.r f.2 f.3;
-        ends = w.ends ∙ ap (λ (x : Tree V). lesser best (least x)) a.is ∙ sym (lesser_assoc best (Some a.k) (or (least a.l) (least a.r)))
+        ends = w.ends ∙ ap (λ (x : Tree V). lesser best (least x)) a.is ∙ sym (lesser_assoc best (Some a.k) (option_or (least a.l) (least a.r)))
             ∙ ap (lesser (lesser best (Some a.k))) (side-least a.l a.r) ∙ ap (λ (x : Node V). lesser (lesser best (Some x.key)) (least (side a.l a.r))) same;
       }
 
   -- what is left to find below a fork, and beside it
   abbrev rest : ℕ → ℕ → ℕ → Tree V → Tree V → Option ℕ
-  rest q p low l r = cond (ltb q (low + 2 ^ p)) (or (next q p low l) (least r)) (next q p (low + 2 ^ p) r)
+  rest q p low l r = cond (ltb q (low + 2 ^ p)) (option_or (next q p low l) (least r)) (next q p (low + 2 ^ p) r)
 
   -- where the walk to the next key has come to; the tree a is what the way left on its right
   pub record Hunt (ns : List (Node V)) (q bits d : ℕ) (at : Option ℕ) (low half : ℕ) (best alt goal : Option ℕ) : Type 0 where
@@ -169,7 +173,7 @@ module _ {V : Type 0} where
     pub alt_is : alt ≡ link a
     pub beside : Laid ns a
     pub high : Levels bits a
-    pub ends : goal ≡ lesser best (or (next q h low t) (least a))
+    pub ends : goal ≡ lesser best (option_or (next q h low t) (least a))
 
   -- the same, once the key of a fork is dealt with
   pub record Past (ns : List (Node V)) (q bits d : ℕ) (n : Node V) (low half : ℕ) (best alt goal : Option ℕ) : Type 0 where
@@ -190,7 +194,7 @@ module _ {V : Type 0} where
     pub alt_is : alt ≡ link a
     pub beside : Laid ns a
     pub high : Levels bits a
-    pub ends : goal ≡ lesser best (or (rest q p low l r) (least a))
+    pub ends : goal ≡ lesser best (option_or (rest q p low l r) (least a))
 
   pub hunt_ok : {ns : List (Node V)} {q bits d low half i : ℕ} {at best alt goal : Option ℕ} → Hunt ns q bits d at low half best alt goal → at ≡ Some i → i < length ns
   hunt_ok {ns} {i = i} u e = let a = forked ns i u.t (sym e ∙ u.at-is) u.is in nth_lt ns i _ a.node
@@ -280,7 +284,7 @@ module _ {V : Type 0} where
         alt_is = refl;
         beside = tt;
         high = tt;
-        ends = u.ends ∙ ap (λ (x : Option ℕ). lesser best (or x (least u.a))) nx ∙ ap (lesser best) (or-lesser n.key R (least u.a)) ∙ sym (lesser_assoc best (Some n.key) R) ∙ ap (lesser (lesser best (Some n.key))) (sym (or-none R));
+        ends = u.ends ∙ ap (λ (x : Option ℕ). lesser best (option_or x (least u.a))) nx ∙ ap (lesser best) (or-lesser n.key R (least u.a)) ∙ sym (lesser_assoc best (Some n.key) R) ∙ ap (lesser (lesser best (Some n.key))) (sym (or-none R));
       }
 
   hunt_on : {ns : List (Node V)} {q bits d low half i : ℕ} {at best alt goal : Option ℕ} (n : Node V) → Hunt ns q bits d at low half best alt goal → at ≡ Some i → d < bits → slice_get ns i ≡ Some n → n.key ≤ q
@@ -307,7 +311,7 @@ module _ {V : Type 0} where
         alt_is = u.alt_is;
         beside = u.beside;
         high = u.high;
-        ends = u.ends ∙ ap (λ (x : Option ℕ). lesser best (or x (least u.a))) nx;
+        ends = u.ends ∙ ap (λ (x : Option ℕ). lesser best (option_or x (least u.a))) nx;
       }
 
   -- a node on the way
@@ -317,7 +321,7 @@ module _ {V : Type 0} where
       let P : Passed → Type 0 = λ x. Past ns q bits d n low half x.best x.aside goal in
       subst P (sym er) (⊎_elim (λ lt. subst P (sym (yes_lt q n.key _ _ lt)) (hunt_up n u e lv nt lt)) (λ ge. subst P (sym (no_lt q n.key _ _ ge)) (hunt_on n u e lv nt ge)) (cases_lt q n.key))
 
-  pub past_left : {ns : List (Node V)} {q bits d low half : ℕ} {best alt goal : Option ℕ} (n : Node V) → Past ns q bits d n low half best alt goal → q - low < half → Hunt ns q bits (d + 1) n.left low (half / 2) best (or n.right alt) goal
+  past_left : {ns : List (Node V)} {q bits d low half : ℕ} {best alt goal : Option ℕ} (n : Node V) → Past ns q bits d n low half best alt goal → q - low < half → Hunt ns q bits (d + 1) n.left low (half / 2) best (option_or n.right alt) goal
   past_left {ns} {q} {bits} {d} {low} {half} {best} {alt} {goal} n u lt =
       let from : low ≤ q = u.from in
       let below : q < low + 2 ^ u.p = omega (arith, u.half_is) in
@@ -333,13 +337,13 @@ module _ {V : Type 0} where
         from = from;
         to = below;
         half_is = ap (λ (x : ℕ). x / 2) u.half_is ∙ half_next u.p;
-        alt_is = ap (λ (x : Option ℕ). or x alt) u.right_is ∙ ap (or (link u.r)) u.alt_is ∙ side-link u.r u.a;
+        alt_is = ap (λ (x : Option ℕ). option_or x alt) u.right_is ∙ ap (option_or (link u.r)) u.alt_is ∙ side-link u.r u.a;
         beside = side-is ns u.r u.a u.on_right u.beside;
         high = side_high bits u.r u.a (in_high u.p (low + 2 ^ u.p) bits u.r u.right_in (omega (arith, u.depth))) u.high;
-        ends = u.ends ∙ ap (λ (x : Option ℕ). lesser best (or x (least u.a))) (yes_lt q (low + 2 ^ u.p) _ _ below) ∙ ap (lesser best) (or_assoc left (least u.r) (least u.a) ∙ ap (or left) (side-least u.r u.a));
+        ends = u.ends ∙ ap (λ (x : Option ℕ). lesser best (option_or x (least u.a))) (yes_lt q (low + 2 ^ u.p) _ _ below) ∙ ap (lesser best) (or_assoc left (least u.r) (least u.a) ∙ ap (option_or left) (side-least u.r u.a));
       }
 
-  pub past_right : {ns : List (Node V)} {q bits d low half : ℕ} {best alt goal : Option ℕ} (n : Node V) → Past ns q bits d n low half best alt goal → half ≤ q - low → Hunt ns q bits (d + 1) n.right (low + half) (half / 2) best alt goal
+  past_right : {ns : List (Node V)} {q bits d low half : ℕ} {best alt goal : Option ℕ} (n : Node V) → Past ns q bits d n low half best alt goal → half ≤ q - low → Hunt ns q bits (d + 1) n.right (low + half) (half / 2) best alt goal
   past_right {ns} {q} {bits} {d} {low} {half} {best} {alt} {goal} n u ge =
       let from : low ≤ q = u.from in
       let above : low + 2 ^ u.p ≤ q = omega (arith, u.half_is) in
@@ -358,8 +362,17 @@ module _ {V : Type 0} where
         alt_is = u.alt_is;
         beside = u.beside;
         high = u.high;
-        ends = u.ends ∙ ap (λ (x : Option ℕ). lesser best (or x (least u.a))) (no_lt q (low + 2 ^ u.p) _ _ above ∙ ap (λ (x : ℕ). next q u.p x u.r) lows);
+        ends = u.ends ∙ ap (λ (x : Option ℕ). lesser best (option_or x (least u.a))) (no_lt q (low + 2 ^ u.p) _ _ above ∙ ap (λ (x : ℕ). next q u.p x u.r) lows);
       }
+
+  -- a turn to the side of the key
+  pub past_on : {ns : List (Node V)} {q bits d low half : ℕ} {goal : Option ℕ} (n : Node V) (p r : Passed) (s : Side) → Past ns q bits d n low half p.best p.aside goal → s ≡ cond (ltb q (low + half)) Left Right → r ≡ side_passed s n.right p
+      → Hunt ns q bits (d + 1) (child s n) (low_on s low half) (half / 2) r.best r.aside goal
+  past_on {ns} {q} {bits} {d} {low} {half} {goal} n p r s u e er = subst (λ (x : Passed). Hunt ns q bits (d + 1) (child s n) (low_on s low half) (half / 2) x.best x.aside goal) (sym er) (go s e)
+    where
+      go : (s : Side) → s ≡ cond (ltb q (low + half)) Left Right → Hunt ns q bits (d + 1) (child s n) (low_on s low half) (half / 2) (side_passed s n.right p).best (side_passed s n.right p).aside goal
+      go Left e = let from : low ≤ q = u.from in let lt = went_left q (low + half) Left e refl in past_left n u (omega arith)
+      go Right e = let ge = went_right q (low + half) Right e refl in past_right n u (omega arith)
 
   pub record Aside (ns : List (Node V)) (bits : ℕ) (alt : Option ℕ) : Type 0 where
     pub link-is : alt ≡ link (tree_below (suc bits) ns alt)
@@ -382,7 +395,7 @@ module _ {V : Type 0} where
   over : {ns : List (Node V)} {q bits d low half : ℕ} {at best alt goal : Option ℕ} (u : Hunt ns q bits d at low half best alt goal) → next q u.h low u.t ≡ None → lesser best (least (tree_below (suc bits) ns alt)) ≡ goal
   over {ns} {bits = bits} {best = best} {alt = alt} u n =
       let e : tree_below (suc bits) ns alt ≡ u.a = whole ns bits alt u.a u.alt_is u.high u.beside in
-      ap (λ (x : Tree V). lesser best (least x)) e ∙ sym (u.ends ∙ ap (λ (x : Option ℕ). lesser best (or x (least u.a))) n)
+      ap (λ (x : Tree V). lesser best (least x)) e ∙ sym (u.ends ∙ ap (λ (x : Option ℕ). lesser best (option_or x (least u.a))) n)
 
   pub hunt_none : {ns : List (Node V)} {q bits d low half : ℕ} {at best alt goal : Option ℕ} → Hunt ns q bits d at low half best alt goal → at ≡ None → lesser best (least (tree_below (suc bits) ns alt)) ≡ goal
   hunt_none {q = q} {low = low} u e = over u (bare q u.h low u.t (sym e ∙ u.at-is))

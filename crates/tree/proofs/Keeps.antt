@@ -36,15 +36,17 @@ module _ {V : Type 0} where
   after-del limit ns ms h k q s u e b = build limit ms k u
       (ap (λ (x : List (ℕ × V)). all_below limit (keys x)) e ∙ below-without limit q (stored ns h) s.lawful.valid) (same_digits limit h k s.digits b)
 
-  took : (q room : ℕ) (w : V) (es : List (ℕ × V)) (o : Option V) → get q es ≡ o → length (ins q w es) ≤ room → takes room es q ≡ true
+  pub known_taken : (q room : ℕ) (es : List (ℕ × V)) → holds es q ≡ true → takes room es q ≡ true
+  known_taken q room es h = grind (arith, nat_tests)
+
+  -- what fits in is taken
+  pub took : (q room : ℕ) (w : V) (es : List (ℕ × V)) (o : Option V) → get q es ≡ o → length (ins q w es) ≤ room → takes room es q ≡ true
   took q room w es None g le = let h : holds es q ≡ false = holds-none q es g in let l = length-ins q w es g in let lt : length es < room = omega arith in grind (arith, nat_tests)
-  took q room w es (Some v) g le = let h : holds es q ≡ true = holds-some q v es g in grind (arith, nat_tests)
+  took q room w es (Some v) g le = known_taken q room es (holds-some q v es g)
 
-  pub put_took : (ns ms : List (Node V)) (h k : Head) (q : ℕ) (w : V) → WellFormed ms k → stored ms k ≡ ins q w (stored ns h) → length ms ≡ length ns → takes (length ns) (stored ns h) q ≡ true
-  put_took ns ms h k q w u e len = took q (length ns) w (stored ns h) (get q (stored ns h)) refl (let l = ap length e in omega (arith, l, counted ms k u, u.count_is, u.used, u.within))
-
-  pub put_full : (ns : List (Node V)) (h : Head) (q : ℕ) → get q (stored ns h) ≡ None → length (stored ns h) ≡ length ns → takes (length ns) (stored ns h) q ≡ false
-  put_full ns h q g len = let f : holds (stored ns h) q ≡ false = holds-none q (stored ns h) g in let le : length ns ≤ length (stored ns h) = omega arith in grind (arith, nat_tests)
+  -- what is put into a full store is refused, if it is new
+  pub put_full : (q room : ℕ) (es : List (ℕ × V)) → get q es ≡ None → length es ≡ room → takes room es q ≡ false
+  put_full q room es g len = let f : holds es q ≡ false = holds-none q es g in let le : room ≤ length es = omega arith in grind (arith, nat_tests)
 
   pub after_clear : (limit : ℕ) (ns : List (Node V)) (w : Width) → length ns ≤ 65536 → Digits limit w.bits → Sound limit ns (blank w)
   unfolding all_below

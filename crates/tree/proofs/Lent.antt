@@ -1,55 +1,63 @@
--- The nodes that a method of the tree lends, and what it gets back. Assumes nothing.
-use Rattle.std.proofs.Common.{◌≡◌, ℕ, ◌^◌, ◌<◌, true, false, List, length, None, Vec, sym, ap, ◌∙◌, subst, arith}
+-- What a method of the tree leaves of it, once it has written the nodes that it lent. Assumes nothing.
+use Rattle.std.proofs.Common.{◌≡◌, ℕ, ◌^◌, ◌<◌, List, length, Some, Option, Vec, suc, sym, refl, ap, ◌∙◌, subst, arith}
 use Rattle.std.specs.Vec.{with_items}
 use Rattle.std.proofs.lemmas.List.{with_items_is}
+use Rattle.tree.specs.declared.free.Spare.{Spare}
 use Rattle.tree.specs.declared.head.Head.{Head}
+use Rattle.tree.specs.declared.links.Link.{Link}
+use Rattle.tree.specs.declared.links.Place.{Place}
 use Rattle.tree.specs.declared.node.Node.{Node}
-use Rattle.store.specs.Model.{at, holds, takes, with_entry, without}
-use Rattle.tree.specs.State.{WellFormed, Sound, stored}
-use Rattle.tree.proofs.Keeps.{counted, put_took, put_full}
-use Rattle.tree.proofs.Sealed.{sound}
+use Rattle.tree.specs.declared.search_tree.SearchTree.{SearchTree}
+use Rattle.store.specs.Model.{with_entry, without}
+use Rattle.tree.specs.Feet.{Bottom}
+use Rattle.tree.specs.Heads.{with_spare, without_tip}
+use Rattle.tree.specs.State.{Sound, SpareNode, Held, Missing, stored}
+use Rattle.tree.specs.Tree.{tree_below}
+use Rattle.tree.specs.Writes.{Attached, Renewed, TakenOut}
+use Rattle.tree.proofs.Keeps.{counted, after_put, after-del}
+use Rattle.tree.proofs.NewKey.{put_new_lem}
+use Rattle.tree.proofs.OldKey.{again}
+use Rattle.tree.proofs.Removal.{taken}
+use Rattle.tree.proofs.Sealed.{known}
 
--- a key is a number of so many digits
-pub digits_of : {V : Type 0} {limit : ℕ} {ns : List (Node V)} {h : Head} (q : ℕ) → Sound limit ns h → q < limit → q < 2 ^ h.width.bits
-digits_of q u lt = omega (arith, u.digits.suffice, lt)
+-- the tree of those nodes and that head, with its entries
+pub record Left {V Z : Type 0} (limit : ℕ) (v : Vec (Node V) Z) (ws : List (Node V)) (k : Head) (es : List (ℕ × V)) : Type 0 where
+  pub sound : ∥ Sound limit (with_items v ws).items k ∥₁
+  pub counted : k.count ≡ length (stored (with_items v ws).items k)
+  pub entries : stored (with_items v ws).items k ≡ es
 
-module _ {V Z : Type 0} (limit : ℕ) (v : Vec (Node V) Z) (h : Head) (ok : ∥ Sound limit v.items h ∥₁) (ns : List (Node V)) (was : ns ≡ v.items) where
-  pub lent : Sound limit ns h
-  lent = subst (λ zs. Sound limit zs h) (sym was) (sound limit v.items h ok)
+left : {V Z : Type 0} (limit : ℕ) (v : Vec (Node V) Z) (ws : List (Node V)) (k : Head) (es : List (ℕ × V)) → length ws ≡ length v.items → Sound limit ws k → stored ws k ≡ es → Left limit v ws k es
+left limit v ws k es len u e =
+    let back : (with_items v ws).items ≡ ws = with_items_is v ws (omega (arith, len, v.ok.0)) in
+    record {
+      sound = subst (λ zs. ∥ Sound limit zs k ∥₁) (sym back) ∣ u ∣₁;
+      counted = counted ws k u.wf ∙ ap (λ zs. length (stored zs k)) (sym back);
+      entries = ap (λ zs. stored zs k) back ∙ e;
+    }
 
-  abbrev es : List (ℕ × V)
-  es = stored v.items h
+module _ {K V : Type 0} {limit : ℕ} (s : SearchTree K V limit) (ns ws : List (Node V)) (was : ns ≡ s.nodes.items) (len : length ws ≡ length ns) where
+  short : (q : ℕ) → q < limit → q < 2 ^ s.head.width.bits
+  short q lt = omega (arith, (known s).digits.suffice, lt)
 
-  same : stored ns h ≡ es
-  same = ap (λ zs. stored zs h) was
+  pub left_new : (k : Head) (sp : Spare) (under : Option Link) (q n : ℕ) (w : V) → q ≡ n → k ≡ with_spare s.head sp under → SpareNode s.nodes.items s.head sp → Missing limit s.nodes.items s.head n under → Attached ns ws q w sp.at under → Left limit s.nodes ws k (with_entry (stored s.nodes.items s.head) n w)
+  left_new k sp under q n w num e kp m hu =
+      let u = known s in
+      let hu' : Attached s.nodes.items ws n w sp.at under = subst (λ zs. Attached zs ws n w sp.at under) was (subst (λ x. Attached ns ws x w sp.at under) num hu) in
+      let a = put_new_lem s.nodes.items ws s.head k u.wf n w sp kp under (short n m.below) m.at-is m.under_is hu' (len ∙ ap length was)
+      (ap (λ (x : Head). x.root) e) (ap (λ (x : Head). x.free) e) (ap (λ (x : Head). x.fresh) e) (ap (λ (x : Head). x.count) e) (ap (λ (x : Head). x.width) e) in
+      left limit s.nodes ws k _ (len ∙ ap length was) (after_put limit s.nodes.items ws s.head k n w u a.wf a.entries_are (ap (λ (x : Head). x.width) e) m.below) a.entries_are
 
-  pub back : (ws : List (Node V)) → length ws ≡ length ns → (with_items v ws).items ≡ ws
-  back ws len = with_items_is v ws (omega (arith, len, ap length was, v.ok.0))
+  pub left_renewed : (p : Place) (n : ℕ) (w : V) → Held limit s.nodes.items s.head n p → Renewed ns ws p.at w → Left limit s.nodes ws s.head (with_entry (stored s.nodes.items s.head) n w)
+  left_renewed p n w m re =
+      let u = known s in
+      let a = again s.nodes.items ws s.head u.wf n p.at w (short n m.below) m.at-is (subst (λ zs. Renewed zs ws p.at w) was re) (len ∙ ap length was) in
+      left limit s.nodes ws s.head _ (len ∙ ap length was) (after_put limit s.nodes.items ws s.head s.head n w u a.wf a.entries_are refl m.below) a.entries_are
 
-  pub whole : (ws : List (Node V)) (k : Head) → length ws ≡ length ns → Sound limit ws k → ∥ Sound limit (with_items v ws).items k ∥₁
-  whole ws k len u = subst (λ zs. ∥ Sound limit zs k ∥₁) (sym (back ws len)) ∣ u ∣₁
-
-  pub tally : (ws : List (Node V)) (k : Head) → length ws ≡ length ns → WellFormed ws k → k.count ≡ length (stored (with_items v ws).items k)
-  tally ws k len u = counted ws k u ∙ ap (λ zs. length (stored zs k)) (sym (back ws len))
-
-  pub unchanged : (ws : List (Node V)) → ws ≡ ns → (with_items v ws).items ≡ v.items
-  unchanged ws e = back ws (ap length e) ∙ e ∙ was
-
-  -- the facts of the store are those that it had
-  pub as_it_was : (ws : List (Node V)) → ws ≡ ns → h.count ≡ length es → ∥ Sound limit (with_items v ws).items h ∥₁ × (h.count ≡ length (stored (with_items v ws).items h))
-  as_it_was ws e n = (subst (λ zs. ∥ Sound limit zs h ∥₁) (sym (unchanged ws e)) ok, n ∙ ap (λ zs. length (stored zs h)) (sym (unchanged ws e)))
-
-  pub took : (ws : List (Node V)) (k : Head) (q n : ℕ) (w : V) → length ws ≡ length ns → q ≡ n → WellFormed ws k → stored ws k ≡ with_entry (stored ns h) q w → (takes v.len es n ≡ true) × (stored (with_items v ws).items k ≡ with_entry es n w)
-  took ws k q n w len e u put = (
-    ap (takes v.len es) (sym e) ∙ ap (λ xs. takes v.len xs q) (sym same) ∙ ap (λ m. takes m (stored ns h) q) (omega (arith, ap length was, v.ok.0)) ∙ put_took ns ws h k q w u put len,
-    ap (λ zs. stored zs k) (back ws len) ∙ put ∙ ap (λ xs. with_entry xs q w) same ∙ ap (λ m. with_entry es m w) e,
-  )
-
-  pub full : (q n : ℕ) → q ≡ n → at (stored ns h) q ≡ None → length (stored ns h) ≡ length ns → takes v.len es n ≡ false
-  full q n e missing all = ap (takes v.len es) (sym e) ∙ ap (λ xs. takes v.len xs q) (sym same) ∙ ap (λ m. takes m (stored ns h) q) (omega (arith, ap length was, v.ok.0)) ∙ put_full ns h q missing all
-
-  pub dropped : (ws : List (Node V)) (k : Head) (q n : ℕ) → length ws ≡ length ns → q ≡ n → stored ws k ≡ without (stored ns h) q → stored (with_items v ws).items k ≡ without es n
-  dropped ws k q n len e gone = ap (λ zs. stored zs k) (back ws len) ∙ gone ∙ ap (λ xs. without xs q) same ∙ ap (without es) e
-
-  pub stood : (q n : ℕ) → q ≡ n → holds (stored ns h) q ≡ holds es n
-  stood q n e = ap (λ xs. holds xs q) same ∙ ap (holds es) e
+  pub left-out : (k : Head) (p tip : Place) (n : ℕ) → k ≡ without_tip s.head tip → Held limit s.nodes.items s.head n p → Bottom (tree_below (suc s.head.width.bits) s.nodes.items (Some p.at)) p.under tip.at tip.under → TakenOut ns ws p.at tip s.head.free
+      → Left limit s.nodes ws k (without (stored s.nodes.items s.head) n)
+  left-out k p tip n e m bo t =
+      let u = known s in
+      let t' = subst (λ zs. TakenOut zs ws p.at tip s.head.free) was t in
+      let a = taken s.nodes.items t'.filled t'.cut ws s.head k u.wf n p.at tip.at p.under tip.under (short n m.below) m.at-is m.under_is bo t'.promoted t'.relinked t'.released (len ∙ ap length was)
+      (ap (λ (x : Head). x.root) e) (ap (λ (x : Head). x.free) e) (ap (λ (x : Head). x.fresh) e) (ap (λ (x : Head). x.count) e) (ap (λ (x : Head). x.width) e) in
+      left limit s.nodes ws k _ (len ∙ ap length was) (after-del limit s.nodes.items ws s.head k n u a.wf a.entries_are (ap (λ (x : Head). x.width) e)) a.entries_are

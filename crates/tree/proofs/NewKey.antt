@@ -2,6 +2,7 @@
 use Rattle.std.proofs.Common.{◌≡◌, ℕ, zero, suc, ◌+◌, ◌^◌, ◌<◌, ◌≤◌, cond, eqb, ◌⊎◌, List, [], ◌∷◌, length, Some, None, Option, sym, refl, ap, ◌∙◌, subst, inl, inr, ⊎_elim, arith}
 use Rattle.std.proofs.lemmas.Bool.{cases_lt, cases_eq}
 use Rattle.std.specs.List.{slice_get}
+use Rattle.std.specs.Option.{option_or}
 use Rattle.tree.specs.declared.head.Head.{Head}
 use Rattle.tree.specs.declared.free.Spare.{Spare}
 use Rattle.tree.specs.declared.width.Width.{Width}
@@ -11,7 +12,7 @@ use Rattle.tree.specs.declared.links.Side.TheVariants.{Left, Right}
 use Rattle.tree.specs.declared.node.Node.{Node}
 use Rattle.tree.specs.State.{SpareNode, listed, Chain, WellFormed, tree_of, stored}
 use Rattle.tree.specs.Heads.{rooted_at}
-use Rattle.tree.specs.Tree.{Tree, leaf, fork, link, Laid, Inside, place_of, last_link, tree_below, pour, occurs, size, one, or, record_of, on}
+use Rattle.tree.specs.Tree.{Tree, leaf, fork, link, Laid, Inside, place_of, last_link, tree_below, pour, occurs, size, one, record_of, on}
 use Rattle.tree.specs.Writes.{with_link, Attached, Linked, Elsewhere, Beside}
 use Rattle.tree.proofs.Ends.{end, put_at, first, way, here, left, right, in_at, cnt_at, size-at, val_end, val_other, once-at, near, stop, deep, is_at}
 use Rattle.tree.proofs.Entries.{get, ins, get_nil, yes_eq, no_eq, yes_lt, no_lt, sorted_ins, get-ins, same_entries, length-ins}
@@ -27,7 +28,7 @@ module _ {V : Type 0} where
 
   -- what the entries say of a key
   pub get_tree : (q : ℕ) (t : Tree V) → get q (pour t []) ≡ record_of q t
-  get_tree q t = get-pour q t [] ∙ ap (or (record_of q t)) (get_nil V q) ∙ or-none (record_of q t)
+  get_tree q t = get-pour q t [] ∙ ap (option_or (record_of q t)) (get_nil V q) ∙ or-none (record_of q t)
 
   -- the entries after a put, from what look-ups find
   pub ins_tree : (q : ℕ) (w : V) (s t : Tree V) → ((x : ℕ) → record_of x s ≡ cond (eqb x q) (Some w) (record_of x t)) → pour s [] ≡ ins q w (pour t [])

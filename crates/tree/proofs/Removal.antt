@@ -2,6 +2,7 @@
 use Rattle.std.proofs.Common.{◌≡◌, ℕ, zero, suc, ◌+◌, ◌-◌, ◌^◌, ◌<◌, ◌≤◌, cond, eqb, List, [], ◌∷◌, length, Some, None, Option, sym, refl, ap, ◌∙◌, subst, inl, inr, ⊎_elim, arith}
 use Rattle.std.proofs.lemmas.Bool.{cases_eq}
 use Rattle.std.specs.List.{slice_get}
+use Rattle.std.specs.Option.{option_or}
 use Rattle.tree.specs.declared.head.Head.{Head}
 use Rattle.tree.specs.declared.width.Width.{Width}
 use Rattle.tree.specs.declared.links.Link.{Link}
@@ -11,7 +12,7 @@ use Rattle.tree.specs.declared.node.Node.{Node}
 use Rattle.tree.specs.Feet.{Foot, Bottom}
 use Rattle.tree.specs.State.{Chain, WellFormed, tree_of, stored}
 use Rattle.tree.specs.Heads.{rooted_at}
-use Rattle.tree.specs.Tree.{Tree, leaf, fork, node_of, link, Laid, Inside, place_of, last_link, tree_below, pour, occurs, size, one, or, record_of, Distinct, Levels, on}
+use Rattle.tree.specs.Tree.{Tree, leaf, fork, node_of, link, Laid, Inside, place_of, last_link, tree_below, pour, occurs, size, one, record_of, Distinct, Levels, on}
 use Rattle.tree.specs.Writes.{with_link, Stands, Relinked, Promoted, Released}
 use Rattle.tree.proofs.Ends.{end, put_at, way, here, left, right, in_at, cnt_at, size-at, val_end, val_other, once-at, cnt_end, stop, deep, near, is_at}
 use Rattle.tree.proofs.Entries.{yes_eq, no_eq, sorted_del, get-del, same_entries, length-del, get, del}
@@ -188,8 +189,8 @@ module _ {V : Type 0} where
   val_is_end q zero low (fork j k v l r) inn a = refl
   val_is_end q (suc h) low (fork j k v l r) inn a = elim (way leaf q h low j k v l r) [
     | here e en pu la lo ↦ ap (record_of q) (sym en)
-    | left ne w en pu la lo ↦ no_eq q k _ _ (λ e. ne (sym e)) ∙ ap (or (record_of q l)) (outside q h (low + 2 ^ h) r inn.3 (inl w)) ∙ or-none (record_of q l) ∙ val_is_end q h low l inn.2 (at_left q h low a w) ∙ ap (record_of q) (sym en)
-    | right ne w en pu la lo ↦ no_eq q k _ _ (λ e. ne (sym e)) ∙ ap (λ (x : Option V). or x (record_of q r)) (outside q h low l inn.2 (inr w)) ∙ val_is_end q h (low + 2 ^ h) r inn.3 (at_right q h low a w) ∙ ap (record_of q) (sym en)
+    | left ne w en pu la lo ↦ no_eq q k _ _ (λ e. ne (sym e)) ∙ ap (option_or (record_of q l)) (outside q h (low + 2 ^ h) r inn.3 (inl w)) ∙ or-none (record_of q l) ∙ val_is_end q h low l inn.2 (at_left q h low a w) ∙ ap (record_of q) (sym en)
+    | right ne w en pu la lo ↦ no_eq q k _ _ (λ e. ne (sym e)) ∙ ap (λ (x : Option V). option_or x (record_of q r)) (outside q h low l inn.2 (inr w)) ∙ val_is_end q h (low + 2 ^ h) r inn.3 (at_right q h low a w) ∙ ap (record_of q) (sym en)
   ]
 
   pub found_some : (ns : List (Node V)) (h : Head) (u : WellFormed ns h) (q i : ℕ) → place_of q h.width.bits 0 (tree_of ns h) ≡ Some i → 1 ≤ h.count

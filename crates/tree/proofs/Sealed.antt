@@ -5,6 +5,7 @@ use mathlib.Core.HLevel.{⊥_prop}
 use Rattle.std.specs.List.{slice_get}
 use Rattle.tree.specs.declared.head.Head.{Head}
 use Rattle.tree.specs.declared.node.Node.{Node}
+use Rattle.tree.specs.declared.search_tree.SearchTree.{SearchTree}
 use Rattle.tree.specs.Cut.{out_eq, out_le, out_none, out_link, out_lawful}
 use Rattle.tree.specs.State.{listed, Chain, WellFormed, tree_of, Sound}
 use Rattle.tree.specs.Tree.{Tree, leaf, fork, node_of, link, Laid, Inside, Distinct, tree_below, occurs, size, pour}
@@ -97,3 +98,7 @@ module _ {V : Type 0} where
 
   pub sound : (limit : ℕ) (ns : List (Node V)) (h : Head) → ∥ Sound limit ns h ∥₁ → Sound limit ns h
   sound limit ns h w = record { wf = out ns h (∥∥₁_map w (λ u. u.wf)); lawful = out_lawful (∥∥₁_map w (λ u. u.lawful)); digits = record { some = out_le _ _ (∥∥₁_map w (λ u. u.digits.some)); suffice = out_le _ _ (∥∥₁_map w (λ u. u.digits.suffice)); least = λ m a b. out_le _ _ (∥∥₁_map w (λ u. u.digits.least m a b)) } }
+
+-- what a search tree keeps
+pub known : {K V : Type 0} {limit : ℕ} (s : SearchTree K V limit) → Sound limit s.nodes.items s.head
+known {limit = limit} s = sound limit s.nodes.items s.head s.sound

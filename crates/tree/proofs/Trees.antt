@@ -5,8 +5,9 @@ use native.Mathlib.Nat.{two-pow-succ}
 use Rattle.std.proofs.lemmas.Bool.{cases_lt, cases_eq}
 use Rattle.std.proofs.lemmas.Option.{slice_get_past, slice_get_read}
 use Rattle.std.specs.List.{slice_get}
+use Rattle.std.specs.Option.{option_or}
 use Rattle.tree.specs.declared.node.Node.{Node}
-use Rattle.tree.specs.Tree.{Tree, leaf, fork, link, Laid, Inside, place_of, tree_below, pour, occurs, one, or, record_of, node_of, Way}
+use Rattle.tree.specs.Tree.{Tree, leaf, fork, link, Laid, Inside, place_of, tree_below, pour, occurs, one, record_of, node_of, Way}
 use Rattle.tree.proofs.Entries.{get, Sorted, yes_eq, no_eq, yes_lt, no_lt, sorted_ins, get-ins}
 
 pub one_same : (x j : ℕ) → x ≡ j → one x j ≡ 1
@@ -15,7 +16,7 @@ one_same x j e = yes_eq x j 1 0 e
 pub one_other : (x j : ℕ) → (x ≡ j → ⊥) → one x j ≡ 0
 one_other x j e = no_eq x j 1 0 e
 
-pub or-none : {X : Type 0} (x : Option X) → or x None ≡ x
+pub or-none : {X : Type 0} (x : Option X) → option_or x None ≡ x
 or-none None = refl
 or-none (Some x) = refl
 
@@ -30,15 +31,15 @@ pub at_right : (q h low : ℕ) → At q (suc h) low → low + 2 ^ h ≤ q → At
 at_right q h low a w = let b : q < low + 2 ^ suc h = a.1 in (w, omega (arith, two-pow-succ h))
 
 module _ {V : Type 0} where
-  pub get-pour : (q : ℕ) (t : Tree V) (es : List (ℕ × V)) → get q (pour t es) ≡ or (record_of q t) (get q es)
+  pub get-pour : (q : ℕ) (t : Tree V) (es : List (ℕ × V)) → get q (pour t es) ≡ option_or (record_of q t) (get q es)
   get-pour q leaf es = refl
   get-pour q (fork j k v l r) es =
       get-ins q k v (pour l (pour r es)) ∙ ⊎_elim
-      (λ e. yes_eq q k _ _ e ∙ sym (ap (λ (x : Option V). or x (get q es)) (yes_eq q k _ _ e)))
-      (λ e. no_eq q k _ _ e ∙ get-pour q l (pour r es) ∙ ap (or (record_of q l)) (get-pour q r es) ∙ assoc (record_of q l) (record_of q r) (get q es) ∙ sym (ap (λ (x : Option V). or x (get q es)) (no_eq q k _ _ e)))
+      (λ e. yes_eq q k _ _ e ∙ sym (ap (λ (x : Option V). option_or x (get q es)) (yes_eq q k _ _ e)))
+      (λ e. no_eq q k _ _ e ∙ get-pour q l (pour r es) ∙ ap (option_or (record_of q l)) (get-pour q r es) ∙ assoc (record_of q l) (record_of q r) (get q es) ∙ sym (ap (λ (x : Option V). option_or x (get q es)) (no_eq q k _ _ e)))
       (cases_eq q k)
     where
-      assoc : (x y z : Option V) → or x (or y z) ≡ or (or x y) z
+      assoc : (x y z : Option V) → option_or x (option_or y z) ≡ option_or (option_or x y) z
       assoc None y z = refl
       assoc (Some x) y z = refl
 
@@ -51,13 +52,13 @@ module _ {V : Type 0} where
   outside q h low leaf inn o = refl
   outside q zero low (fork j k v l r) inn o =
       let ne : q ≡ k → ⊥ = ⊎_elim (λ (a : q < low). omega (arith, inn.0)) (λ (a : low + 2 ^ 0 ≤ q). omega (arith, inn.0)) o in
-      no_eq q k _ _ ne ∙ ap (λ (x : Tree V). or (record_of q x) (record_of q r)) inn.1 ∙ ap (record_of q) inn.2
+      no_eq q k _ _ ne ∙ ap (λ (x : Tree V). option_or (record_of q x) (record_of q r)) inn.1 ∙ ap (record_of q) inn.2
   outside q (suc h) low (fork j k v l r) inn o =
       let a : low ≤ k = inn.0 in let b : k < low + 2 ^ suc h = inn.1 in let two : 2 ^ suc h ≡ 2 ^ h + 2 ^ h = two-pow-succ h in
       let ne : q ≡ k → ⊥ = ⊎_elim (λ (w : q < low). omega arith) (λ (w : low + 2 ^ suc h ≤ q). omega arith) o in
       let ol : (q < low) ⊎ (low + 2 ^ h ≤ q) = ⊎_elim (λ (w : q < low). inl w) (λ (w : low + 2 ^ suc h ≤ q). inr (omega arith)) o in
       let or' : (q < low + 2 ^ h) ⊎ (low + 2 ^ h + 2 ^ h ≤ q) = ⊎_elim (λ (w : q < low). inl (omega arith)) (λ (w : low + 2 ^ suc h ≤ q). inr (omega arith)) o in
-      no_eq q k _ _ ne ∙ ap (λ (x : Option V). or x (record_of q r)) (outside q h low l inn.2 ol) ∙ outside q h (low + 2 ^ h) r inn.3 or'
+      no_eq q k _ _ ne ∙ ap (λ (x : Option V). option_or x (record_of q r)) (outside q h low l inn.2 ol) ∙ outside q h (low + 2 ^ h) r inn.3 or'
 
   -- writes elsewhere leave a tree as it is
   pub same : (ns ms : List (Node V)) (t : Tree V) → ((x : ℕ) → 1 ≤ occurs x t → slice_get ms x ≡ slice_get ns x) → Laid ns t → Laid ms t
@@ -82,8 +83,8 @@ module _ {V : Type 0} where
   val_none q zero low (fork j k v l r) inn a n = absurd (miss_ne q zero low j k v l r n (omega (arith, inn.0, a)))
   val_none q (suc h) low (fork j k v l r) inn a n =
       no_eq q k _ _ (λ e. miss_ne q (suc h) low j k v l r n (sym e)) ∙ ⊎_elim
-      (λ w. ap (λ (x : Option V). or x (record_of q r)) (val_none q h low l inn.2 (at_left q h low a w) (miss_left q h low j k v l r n w)) ∙ outside q h (low + 2 ^ h) r inn.3 (inl w))
-      (λ w. ap (λ (x : Option V). or x (record_of q r)) (outside q h low l inn.2 (inr w)) ∙ val_none q h (low + 2 ^ h) r inn.3 (at_right q h low a w) (miss_right q h low j k v l r n w))
+      (λ w. ap (λ (x : Option V). option_or x (record_of q r)) (val_none q h low l inn.2 (at_left q h low a w) (miss_left q h low j k v l r n w)) ∙ outside q h (low + 2 ^ h) r inn.3 (inl w))
+      (λ w. ap (λ (x : Option V). option_or x (record_of q r)) (outside q h low l inn.2 (inr w)) ∙ val_none q h (low + 2 ^ h) r inn.3 (at_right q h low a w) (miss_right q h low j k v l r n w))
       (cases_lt q (low + 2 ^ h))
 
   -- the tree is what the nodes hold below its link

@@ -9,6 +9,7 @@ use Rattle.tree.specs.declared.links.Side.{Side}
 use Rattle.tree.specs.declared.links.Side.TheVariants.{Left, Right}
 use Rattle.tree.specs.declared.node.Node.{Node}
 use Rattle.tree.specs.Tree.{Tree, leaf, fork, node_of, link, Laid, Inside, place_of, last_link, on}
+use Rattle.tree.specs.Writes.{child, low_on}
 use Rattle.tree.proofs.Entries.{yes_eq, no_eq, yes_lt, no_lt}
 use Rattle.tree.proofs.Trees.{nth_lt}
 
@@ -118,7 +119,7 @@ module _ {V : Type 0} where
         right_last = λ d w. no_eq k q _ _ ne ∙ no_lt q (low + 2 ^ h) _ _ w;
       }
 
-  pub go_left : {ns : List (Node V)} {k bits d low half i : ℕ} {goal : Option ℕ} {under end : Option Link} (n : Node V) → Turn ns k bits d (Some i) low half under goal end → slice_get ns i ≡ Some n → (n.key ≡ k → ⊥) → k - low < half → Turn ns k bits (d + 1) n.left low (half / 2) (Some (on i Left)) goal end
+  go_left : {ns : List (Node V)} {k bits d low half i : ℕ} {goal : Option ℕ} {under end : Option Link} (n : Node V) → Turn ns k bits d (Some i) low half under goal end → slice_get ns i ≡ Some n → (n.key ≡ k → ⊥) → k - low < half → Turn ns k bits (d + 1) n.left low (half / 2) (Some (on i Left)) goal end
   go_left {ns} {k} {bits} {d} {low} {half} {i} {goal} {under} {end} n u at ne lt =
       let a = forked ns i u.t u.at-is u.is in
       let node : slice_get ns i ≡ Some (node_of a.k a.v (link a.l) (link a.r)) = a.node in
@@ -142,7 +143,7 @@ module _ {V : Type 0} where
         lasts = u.lasts ∙ ap (λ (x : Tree V). last_link k u.h low x under) a.is ∙ s.left_last under below;
       }
 
-  pub go_right : {ns : List (Node V)} {k bits d low half i : ℕ} {goal : Option ℕ} {under end : Option Link} (n : Node V) → Turn ns k bits d (Some i) low half under goal end → slice_get ns i ≡ Some n → (n.key ≡ k → ⊥) → half ≤ k - low → Turn ns k bits (d + 1) n.right (low + half) (half / 2) (Some (on i Right)) goal end
+  go_right : {ns : List (Node V)} {k bits d low half i : ℕ} {goal : Option ℕ} {under end : Option Link} (n : Node V) → Turn ns k bits d (Some i) low half under goal end → slice_get ns i ≡ Some n → (n.key ≡ k → ⊥) → half ≤ k - low → Turn ns k bits (d + 1) n.right (low + half) (half / 2) (Some (on i Right)) goal end
   go_right {ns} {k} {bits} {d} {low} {half} {i} {goal} {under} {end} n u at ne ge =
       let a = forked ns i u.t u.at-is u.is in
       let node : slice_get ns i ≡ Some (node_of a.k a.v (link a.l) (link a.r)) = a.node in
@@ -167,6 +168,11 @@ module _ {V : Type 0} where
         ends = u.ends ∙ ap (place_of k u.h low) a.is ∙ s.right_way above ∙ ap (λ (x : ℕ). place_of k s.p x a.r) lows;
         lasts = u.lasts ∙ ap (λ (x : Tree V). last_link k u.h low x under) a.is ∙ s.right_last under above ∙ ap (λ (x : ℕ). last_link k s.p x a.r (Some (on i Right))) lows;
       }
+
+  -- a turn to the side of the key
+  pub go_on : {ns : List (Node V)} {k bits d low half i : ℕ} {goal : Option ℕ} {under end : Option Link} (n : Node V) (s : Side) → Turn ns k bits d (Some i) low half under goal end → slice_get ns i ≡ Some n → (n.key ≡ k → ⊥) → s ≡ cond (ltb k (low + half)) Left Right → Turn ns k bits (d + 1) (child s n) (low_on s low half) (half / 2) (Some (on i s)) goal end
+  go_on {k = k} {low = low} {half = half} n Left u at ne e = let from : low ≤ k = u.from in let lt = went_left k (low + half) Left e refl in go_left n u at ne (omega arith)
+  go_on {k = k} {low = low} {half = half} n Right u at ne e = let ge = went_right k (low + half) Right e refl in go_right n u at ne (omega arith)
 
   pub begin : {ns : List (Node V)} {k bits half : ℕ} {root : Option ℕ} (t : Tree V) → root ≡ link t → Laid ns t → Inside bits 0 t → half * 2 ≡ 2 ^ bits → k < 2 ^ bits → bits ≡ suc (bits - 1) → Turn ns k bits 0 root 0 half None (place_of k bits 0 t) (last_link k bits 0 t None)
   begin {ns} {k} {bits} {half} {root} t at is inn two lt pos =

@@ -3,7 +3,7 @@ use Rattle.std.specs.Prelude.{ℕ, ◌+◌, ◌-◌, Some, None, Option}
 use Rattle.tree.specs.declared.free.Spare.{Spare}
 use Rattle.tree.specs.declared.head.Head.{Head}
 use Rattle.tree.specs.declared.links.Link.{Link}
-use Rattle.tree.specs.declared.walk.Tip.{Tip}
+use Rattle.tree.specs.declared.links.Place.{Place}
 use Rattle.tree.specs.declared.width.Width.{Width}
 
 -- no node is in use
@@ -20,5 +20,5 @@ abbrev pub with_spare : Head → Spare → Option Link → Head
 with_spare h s under = record { root = rooted_at under (Some s.at) h.root; free = s.free; fresh = s.fresh; count = h.count + 1; width = h.width }
 
 -- one node less, which is freed
-abbrev pub without_tip : Head → Tip → Head
+abbrev pub without_tip : Head → Place → Head
 without_tip h t = record { root = rooted_at t.under None h.root; free = Some t.at; fresh = h.fresh; count = h.count - 1; width = h.width }

@@ -1,14 +1,16 @@
 -- When nodes and a head hold a store, and what entries it has. Assumes nothing.
-use Rattle.std.specs.Prelude.{◌≡◌, ℕ, suc, ◌+◌, ◌<◌, ◌≤◌, true, ◌⊎◌, List, [], ◌∷◌, length, Some, None, Ok, Err, Option, Result}
+use Rattle.std.specs.Prelude.{◌≡◌, ℕ, suc, ◌+◌, ◌<◌, ◌≤◌, ◌⊎◌, List, [], ◌∷◌, length, Some, None, Ok, Err, Option, Result}
 use Rattle.std.specs.List.{slice_get}
 use Rattle.key.specs.declared.refusal.Refusal.{Refusal}
 use Rattle.key.specs.declared.refusal.Refusal.TheVariants.{StoreFull}
-use Rattle.store.specs.Model.{at, holds, with_entry, without, Lawful}
+use Rattle.store.specs.Model.{Lawful}
 use Rattle.tree.specs.declared.free.Spare.{Spare}
 use Rattle.tree.specs.declared.head.Head.{Head}
+use Rattle.tree.specs.declared.links.Link.{Link}
+use Rattle.tree.specs.declared.links.Place.{Place}
 use Rattle.tree.specs.declared.node.Node.{Node}
 use Rattle.tree.specs.Digits.{Digits}
-use Rattle.tree.specs.Tree.{Tree, Laid, Inside, Distinct, link, tree_below, pour, occurs, size, one}
+use Rattle.tree.specs.Tree.{Tree, Laid, Inside, Distinct, link, tree_below, place_of, last_link, pour, occurs, size, one}
 
 -- how often a place occurs in a list
 abbrev pub listed : ℕ → List ℕ → ℕ
@@ -60,15 +62,22 @@ module _ {V : Type 0} where
   Reserved ns h (Ok s) = SpareNode ns h s
   Reserved ns h (Err e) = (e ≡ StoreFull) × (length (stored ns h) ≡ length ns)
 
-  -- a put refuses exactly a new key where every node holds a record, and then writes nothing
-  abbrev pub PutDone : List (Node V) → List (Node V) → Head → ℕ → V → Result Head Refusal → Type 0
-  PutDone ns ms h q w (Ok k) = WellFormed ms k × (stored ms k ≡ with_entry (stored ns h) q w) × (k.width ≡ h.width)
-  PutDone ns ms h q w (Err e) = (e ≡ StoreFull) × (ms ≡ ns) × (at (stored ns h) q ≡ None) × (length (stored ns h) ≡ length ns)
+  -- the node at a place holds a key, and the link of the place leads there
+  pub record Held (limit : ℕ) (ns : List (Node V)) (h : Head) (q : ℕ) (p : Place) : Type 0 where
+    pub below : q < limit
+    pub at-is : place_of q h.width.bits 0 (tree_of ns h) ≡ Some p.at
+    pub under_is : p.under ≡ last_link q h.width.bits 0 (tree_of ns h) None
 
-  -- a remove of a key that is not there writes nothing
-  abbrev pub RemoveDone : List (Node V) → List (Node V) → Head → ℕ → Option Head → Type 0
-  RemoveDone ns ms h q None = (ms ≡ ns) × (at (stored ns h) q ≡ None)
-  RemoveDone ns ms h q (Some k) = WellFormed ms k × (stored ms k ≡ without (stored ns h) q) × (k.width ≡ h.width) × (holds (stored ns h) q ≡ true)
+  -- no node holds a key, and the walk to it ends with a link
+  pub record Missing (limit : ℕ) (ns : List (Node V)) (h : Head) (q : ℕ) (under : Option Link) : Type 0 where
+    pub below : q < limit
+    pub at-is : place_of q h.width.bits 0 (tree_of ns h) ≡ None
+    pub under_is : under ≡ last_link q h.width.bits 0 (tree_of ns h) None
+
+  -- the one or the other
+  abbrev pub Sought : ℕ → List (Node V) → Head → ℕ → Result Place (Option Link) → Type 0
+  Sought limit ns h q (Ok p) = Held limit ns h q p
+  Sought limit ns h q (Err under) = Missing limit ns h q under
 
   -- nodes and a head that hold a store of keys below a limit
   pub record Sound (limit : ℕ) (ns : List (Node V)) (h : Head) : Type 0 where

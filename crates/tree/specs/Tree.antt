@@ -1,6 +1,7 @@
 -- The tree that nodes in an array stand for. Assumes nothing.
 use Rattle.std.specs.Prelude.{◌≡◌, ℕ, zero, suc, ◌+◌, ◌^◌, ◌<◌, ◌≤◌, cond, ◌⊎◌, List, [], ◌∷◌, Some, None, Option, ◌==◌, nat_lt}
 use Rattle.std.specs.List.{slice_get}
+use Rattle.std.specs.Option.{option_or}
 use Rattle.tree.specs.declared.node.Node.{Node}
 use Rattle.tree.specs.declared.links.Link.{Link}
 use Rattle.tree.specs.declared.links.Side.{Side}
@@ -11,11 +12,6 @@ use Rattle.store.specs.Model.{with_entry}
 pub data Tree (V : Type 0) : Type 0 where
   leaf : Tree V
   fork : ℕ → ℕ → V → Tree V → Tree V → Tree V
-
--- the first, or the second where there is none
-abbrev pub or : {X : Type 0} → Option X → Option X → Option X
-or None y = y
-or (Some x) y = Some x
 
 -- a link of the node at a place
 abbrev pub on : ℕ → Side → Link
@@ -91,7 +87,7 @@ module _ {V : Type 0} where
   -- the record of a key, wherever it stands in the tree
   abbrev pub record_of : ℕ → Tree V → Option V
   record_of q leaf = None
-  record_of q (fork j k v l r) = cond (q == k) (Some v) (or (record_of q l) (record_of q r))
+  record_of q (fork j k v l r) = cond (q == k) (Some v) (option_or (record_of q l) (record_of q r))
 
   -- no key stands below itself
   abbrev pub Distinct : Tree V → Type 0

@@ -1,8 +1,9 @@
 -- What the writes of single nodes leave. Assumes nothing.
-use Rattle.std.specs.Prelude.{◌≡◌, ℕ, ◌<◌, List, Some, None, Option, ◌≢◌}
+use Rattle.std.specs.Prelude.{◌≡◌, ℕ, ◌+◌, ◌<◌, List, Some, None, Option, ◌≢◌}
 use Rattle.std.specs.List.{slice_get}
 use Rattle.tree.specs.declared.node.Node.{Node}
 use Rattle.tree.specs.declared.links.Link.{Link}
+use Rattle.tree.specs.declared.links.Place.{Place}
 use Rattle.tree.specs.declared.links.Side.{Side}
 use Rattle.tree.specs.declared.links.Side.TheVariants.{Left, Right}
 use Rattle.tree.specs.Tree.{node_of}
@@ -22,7 +23,17 @@ abbrev pub Beside : ℕ → ℕ → Option Link → Type 0
 Beside n new None = Unit {0}
 Beside n new (Some u) = (u.node < n) × (u.node ≢ new)
 
+-- where the half of a span on a side begins
+abbrev pub low_on : Side → ℕ → ℕ → ℕ
+low_on Left low half = low
+low_on Right low half = low + half
+
 module _ {V : Type 0} where
+  -- the link of a node on a side
+  abbrev pub child : Side → Node V → Option ℕ
+  child Left n = n.left
+  child Right n = n.right
+
   -- a node with another link on one side
   abbrev pub with_link : Side → Option ℕ → Node V → Node V
   with_link Left i n = node_of n.key n.«record» i n.right
@@ -61,3 +72,11 @@ module _ {V : Type 0} where
   pub record Released (ns ms : List (Node V)) (m : ℕ) (free : Option ℕ) : Type 0 where
     pub freed : (n : Node V) × (slice_get ns m ≡ Some n) × (slice_get ms m ≡ Some (with_link Left free n))
     pub kept : (x : ℕ) → (x ≢ m) → slice_get ms x ≡ slice_get ns x
+
+  -- the writes that take a key out: its node takes the content of the one at the tip, whose link goes, and which is freed
+  pub record TakenOut (ns ms : List (Node V)) (i : ℕ) (tip : Place) (free : Option ℕ) : Type 0 where
+    pub filled : List (Node V)
+    pub cut : List (Node V)
+    pub promoted : Promoted ns filled i tip.at
+    pub relinked : Relinked filled cut tip.under None
+    pub released : Released cut ms tip.at free

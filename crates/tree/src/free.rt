@@ -1,10 +1,10 @@
 //! The nodes that hold no record: those freed by a remove, which are used again first, and those never used.
 ghost use Rattle.std.specs.Prelude.{ℕ, ◌<◌, length};
-ghost use Rattle.tree.specs.State.{WellFormed, Reserved};
+ghost use Rattle.tree.specs.State.{Reserved};
 ghost use Rattle.tree.specs.Writes.{Released};
 
-use crate::head::Head;
 use crate::node::Node;
+use crate::search_tree::SearchTree;
 use key::Refusal;
 
 /// A node for a new key, and what is left of the freed and of the unused nodes without it.
@@ -15,27 +15,25 @@ pub(crate) struct Spare {
     pub(crate) fresh: usize,
 }
 
-/// A node that holds no record, unless every node holds one.
-pub(crate) fn reserve<V: Copy>(nodes: &[Node<V>], head: Head) -> Result<Spare, Refusal>
-    requires { WellFormed nodes.now head }
-    ensures { Reserved nodes.now head result }
-{
-    if let Some(i) = head.free {
-        let node = nodes[i as usize];
-        return Ok(Spare {
-            at: i,
-            free: node.left,
-            fresh: head.fresh,
-        });
+impl<K, V: Copy, const LIMIT: u64> SearchTree<K, V, LIMIT> {
+    /// A node that holds no record, unless every node holds one.
+    pub(crate) fn reserve(&self) -> Result<Spare, Refusal>
+        ensures { Reserved self.now.nodes.items self.now.head result }
+    {
+        let fresh = self.head.fresh;
+        if let Some(at) = self.head.free {
+            let free = self.nodes[at as usize].left;
+            return Ok(Spare { at, free, fresh });
+        }
+        if fresh == self.nodes.len() {
+            return Err(Refusal::StoreFull);
+        }
+        Ok(Spare {
+            at: fresh as u16,
+            free: None,
+            fresh: fresh + 1,
+        })
     }
-    if head.fresh == nodes.len() {
-        return Err(Refusal::StoreFull);
-    }
-    Ok(Spare {
-        at: head.fresh as u16,
-        free: None,
-        fresh: head.fresh + 1,
-    })
 }
 
 /// Puts the node at `m` before the freed nodes.

@@ -3,8 +3,7 @@ ghost use Rattle.std.specs.Prelude.{◌≡◌, ℕ, ◌<◌, ◌≤◌};
 ghost use Rattle.tree.specs.Heads.{blank, rooted_at, with_spare, without_tip};
 
 use crate::free::Spare;
-use crate::links::Link;
-use crate::walk::Tip;
+use crate::links::{Link, Place};
 use crate::width::Width;
 
 /// Where the tree and the list of freed nodes begin, the place from which on no node was ever used, how many nodes
@@ -36,10 +35,7 @@ impl Head {
     fn rooted(self, under: Option<Link>, to: Option<u16>) -> Option<u16>
         ensures { result ≡ rooted_at under to self.root }
     {
-        match under {
-            None => to,
-            Some(_) => self.root,
-        }
+        under.map_or(to, |_| self.root)
     }
 
     /// The head once the spare node holds a new key, to which the link `under` leads.
@@ -52,21 +48,20 @@ impl Head {
             free: spare.free,
             fresh: spare.fresh,
             count: self.count + 1,
-            width: self.width,
+            ..self
         }
     }
 
     /// The head once the node at the tip is taken out of the tree and freed.
-    pub(crate) fn shrunk(self, tip: Tip) -> Head
+    pub(crate) fn shrunk(self, tip: Place) -> Head
         requires { 1 ≤ self.count }
         ensures { result ≡ without_tip self tip }
     {
         Head {
             root: self.rooted(tip.under, None),
             free: Some(tip.at),
-            fresh: self.fresh,
             count: self.count - 1,
-            width: self.width,
+            ..self
         }
     }
 }

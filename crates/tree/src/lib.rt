@@ -3,7 +3,6 @@
 
 #![tactic(auto)]
 
-mod find;
 mod free;
 mod head;
 mod links;
@@ -12,6 +11,7 @@ mod order;
 mod put;
 mod remove;
 mod search_tree;
+mod span;
 mod walk;
 mod width;
 

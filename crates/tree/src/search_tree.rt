@@ -14,8 +14,8 @@ pub mod record_store;
 /// Records by key, in nodes that were handed in.
 #[derive(Drop)]
 pub struct SearchTree<K, V, const LIMIT: u64> {
-    nodes: Vec<Node<V>>,
-    head: Head,
+    pub(crate) nodes: Vec<Node<V>>,
+    pub(crate) head: Head,
     keys: PhantomData<K>,
     ghost sound: { ∥ Sound LIMIT nodes.items head ∥₁ },
     ghost counted: { head.count ≡ length (stored nodes.items head) },

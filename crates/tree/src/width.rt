@@ -18,12 +18,10 @@ impl Width {
     pub(crate) fn of(limit: u64) -> Width
         ensures { Digits limit result.bits }
     {
-        let mut bits: u8 = 1;
-        let mut half: u64 = 1;
-        while bits < 64 && half * 2 < limit {
-            half *= 2;
-            bits += 1;
+        let highest = limit.saturating_sub(1).max(1).ilog2();
+        Width {
+            bits: highest as u8 + 1,
+            half: 1 << highest,
         }
-        Width { bits, half }
     }
 }

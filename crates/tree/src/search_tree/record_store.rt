@@ -3,11 +3,9 @@ ghost use Rattle.std.specs.Prelude.{vec_len};
 ghost use Rattle.tree.specs.State.{stored};
 ghost use Rattle.tree.specs.Laws.{tree_lawful};
 
-use crate::find::find_in;
 use crate::head::Head;
-use crate::order::{first_in, next_in};
-use crate::put::put_in;
-use crate::remove::remove_in;
+use crate::put::renew;
+use crate::remove::take_out;
 use crate::search_tree::SearchTree;
 use key::{Key, Refusal};
 use store::RecordStore;
@@ -29,33 +27,40 @@ impl<K: Key<LIMIT>, V: Copy, const LIMIT: u64> RecordStore<K, V, LIMIT>
     }
 
     fn find(&self, k: K) -> Option<V> {
-        find_in(&self.nodes, self.head, k.to_number())
+        let held = self.seek(k).ok()?;
+        Some(self.nodes[held.at as usize].record)
     }
 
     fn next(&self, above: &Option<K>) -> Option<K> {
         let found = match *above {
-            Some(k) => next_in(&self.nodes, self.head, k.to_number()),
-            None => first_in(&self.nodes, self.head),
+            Some(k) => self.least_above(k),
+            None => self.least(),
         };
-        match found {
-            Some(n) => K::from_number(n),
-            None => None,
-        }
+        K::from_number(found?)
     }
 
     fn put(&mut self, k: K, v: V) -> Result<(), Refusal> {
-        self.head = put_in(&mut self.nodes, self.head, k.to_number(), v)?;
-        Ok(())
+        match self.seek(k) {
+            Ok(held) => {
+                renew(&mut self.nodes, held.at, v);
+                Ok(())
+            }
+            Err(under) => {
+                let spare = self.reserve()?;
+                self.put_new(spare, under, k, v);
+                Ok(())
+            }
+        }
     }
 
     fn remove(&mut self, k: K) -> bool {
-        match remove_in(&mut self.nodes, self.head, k.to_number()) {
-            Some(head) => {
-                self.head = head;
-                true
-            }
-            None => false,
-        }
+        let Ok(held) = self.seek(k) else {
+            return false;
+        };
+        let tip = self.bottom(held);
+        take_out(&mut self.nodes, held.at, tip, self.head.free);
+        self.head = self.head.shrunk(tip);
+        true
     }
 
     fn clear(&mut self) {

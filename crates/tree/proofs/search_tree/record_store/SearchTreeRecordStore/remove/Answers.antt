@@ -1,57 +1,46 @@
 -- The answers of `remove`. Assumes nothing.
-use Rattle.std.proofs.Common.{sym, refl, ap, ◌∙◌}
+use Rattle.std.proofs.Common.{ℕ, length, sym, ap, subst, arith}
 use Rattle.tree.specs.State.{stored}
+use Rattle.tree.specs.Writes.{Stands}
 use Rattle.tree.proofs.Entries.{del-none}
-use Rattle.tree.proofs.Keeps.{after-del}
-use Rattle.tree.proofs.Lent.{lent, digits_of, whole, tally, as_it_was, dropped, stood}
+use Rattle.tree.proofs.Finds.{missing_none, held_within, held-holds}
+use Rattle.tree.proofs.Lent.{left-out}
 use Rattle.tree.proofs.Maps.{holds-none}
+use Rattle.tree.proofs.Removal.{ranges, found_some}
+use Rattle.tree.proofs.Sealed.{known}
 use Rattle.tree.proofs.search_tree.record_store.SearchTreeRecordStore.remove.Goals as goal
 
-pub remove_in-requires : goal.remove_in-requires
-remove_in-requires g c =
+pub returns-in_default-clause-stood : goal.returns-in_default-clause-stood
+returns-in_default-clause-stood g c =
     let s = c.args.self.now in
-    let u = lent g.row.LIMIT s.nodes s.head s.sound _ c.deref_mut.ensures.value in
-    record { wf = u.wf; key = digits_of c.to_number.result u c.to_number.ensures.below }
+    sym (holds-none _ (stored s.nodes.items s.head) (missing_none s _ c.in_default.field-0 c.in_default.ensures))
+
+pub returns-in_default-clause-entries : goal.returns-in_default-clause-entries
+returns-in_default-clause-entries g c =
+    let s = c.args.self.now in
+    sym (del-none _ (stored s.nodes.items s.head) (missing_none s _ c.in_default.field-0 c.in_default.ensures))
+
+pub take_out-requires : goal.take_out-requires
+take_out-requires g c =
+    let s = c.args.self.now in
+    let m = c.in-Ok.ensures in
+    let r = ranges s.nodes.items s.head (known s).wf _ c.in-Ok.held.at _ _ _ m.at-is m.under_is c.bottom-tip.ensures in
+    let same = ap length (sym c.deref_mut.ensures.value) in
+    (omega (arith, held_within s _ c.in-Ok.held m, same), omega (arith, r.0, same), subst (λ (n : ℕ). Stands n c.bottom-tip.result.under) same r.1)
+
+pub shrunk-self-requires : goal.shrunk-self-requires
+shrunk-self-requires g c =
+    let s = c.args.self.now in
+    found_some s.nodes.items s.head (known s).wf _ c.in-Ok.held.at c.in-Ok.ensures.at-is
 
 pub invariant_of-self : goal.invariant_of-self
 invariant_of-self g c =
-    let s = c.args.self.now in
-    let old = c.deref_mut.ensures.value in
-    let p = c.in-Some.ensures in
-    let ws = c.remove_in.new.nodes in
-    let k = c.in-Some.head in
-    let u = lent g.row.LIMIT s.nodes s.head s.sound _ old in
-    record { sound = whole g.row.LIMIT s.nodes s.head s.sound _ old ws k c.remove_in.auto.nodes (after-del g.row.LIMIT c.deref_mut.result.now ws s.head k c.to_number.result u p.0 p.1 p.2); counted = tally g.row.LIMIT s.nodes s.head s.sound _ old ws k c.remove_in.auto.nodes p.0 }
+    let l = left-out c.args.self.now _ c.take_out.new.nodes c.deref_mut.ensures.value c.take_out.auto.nodes c.shrunk-self.result c.in-Ok.held c.bottom-tip.result _ c.shrunk-self.ensures c.in-Ok.ensures c.bottom-tip.ensures c.take_out.ensures in
+    record { sound = l.sound; counted = l.counted }
 
-pub invariant_of-self-in-None : goal.invariant_of-self-in-None
-invariant_of-self-in-None g c =
-    let s = c.args.self.now in
-    let same = as_it_was g.row.LIMIT s.nodes s.head s.sound _ c.deref_mut.ensures.value c.remove_in.new.nodes c.in-None.ensures.0 s.counted in
-    record { sound = same.0; counted = same.1 }
+pub returns-clause-stood : goal.returns-clause-stood
+returns-clause-stood g c = sym (held-holds c.args.self.now _ c.in-Ok.held c.in-Ok.ensures)
 
-pub returns-in-Some : goal.returns-in-Some
-returns-in-Some g c =
-    let s = c.args.self.now in
-    let old = c.deref_mut.ensures.value in
-    let p = c.in-Some.ensures in
-    let q = c.to_number.result in
-    let num = c.to_number.ensures.is in
-    record {
-      room = refl;
-      stood = sym (sym (stood g.row.LIMIT s.nodes s.head s.sound _ old q _ num) ∙ p.3);
-      entries = dropped g.row.LIMIT s.nodes s.head s.sound _ old c.remove_in.new.nodes c.in-Some.head q _ c.remove_in.auto.nodes num p.1;
-    }
-
-pub returns-in-None : goal.returns-in-None
-returns-in-None g c =
-    let s = c.args.self.now in
-    let old = c.deref_mut.ensures.value in
-    let p = c.in-None.ensures in
-    let q = c.to_number.result in
-    let num = c.to_number.ensures.is in
-    let ns = c.deref_mut.result.now in
-    record {
-      room = refl;
-      stood = sym (sym (stood g.row.LIMIT s.nodes s.head s.sound _ old q _ num) ∙ holds-none q (stored ns s.head) p.1);
-      entries = dropped g.row.LIMIT s.nodes s.head s.sound _ old c.remove_in.new.nodes s.head q _ c.remove_in.auto.nodes num (ap (λ zs. stored zs s.head) p.0 ∙ sym (del-none q (stored ns s.head) p.1));
-    }
+pub returns-clause-entries : goal.returns-clause-entries
+returns-clause-entries g c =
+    (left-out c.args.self.now _ c.take_out.new.nodes c.deref_mut.ensures.value c.take_out.auto.nodes c.shrunk-self.result c.in-Ok.held c.bottom-tip.result _ c.shrunk-self.ensures c.in-Ok.ensures c.bottom-tip.ensures c.take_out.ensures).entries

@@ -1,0 +1,22 @@
+-- The answers of `least_from`. Assumes nothing.
+use Rattle.std.proofs.Common.{arith}
+use Rattle.tree.proofs.Hunts.{sink_begin, sink_ok, sink_none, sink_end, sink_down}
+use Rattle.tree.proofs.Trees.{read}
+use Rattle.tree.proofs.search_tree.SearchTree.least_from.Goals as goal
+
+pub loop-level-init : goal.loop-level-init
+loop-level-init g c = sink_begin c.args.self.now.head.width.bits c.requires.link c.requires.tree
+
+pub index-node-requires : goal.index-node-requires
+index-node-requires g c = omega (arith, c.args.self.now.nodes.ok.0, sink_ok c.loop-level.invariant c.in-Some.is)
+
+pub loop-level-preserved : goal.loop-level-preserved
+loop-level-preserved g c =
+    let at = read c.args.self.now.nodes.items c.in-Some.i _ (sink_ok c.loop-level.invariant c.in-Some.is) c.index-node.ensures in
+    simp (c.lesser_of-best.ensures, c.or-at.ensures) (sink_down c.index-node.result.now c.loop-level.invariant c.in-Some.is at)
+
+pub returns-in_default : goal.returns-in_default
+returns-in_default g c = sink_none c.loop-level.invariant c.in_default.is
+
+pub returns : goal.returns
+returns g c = sink_end c.loop-level.invariant c.loop-level-test.false

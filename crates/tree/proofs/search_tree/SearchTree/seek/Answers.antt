@@ -1,0 +1,47 @@
+-- The answers of `seek`. Assumes nothing.
+use Rattle.std.proofs.Common.{◌^◌, ◌<◌, sym, subst, arith}
+use Rattle.tree.specs.State.{Held, Missing, tree_of}
+use Rattle.tree.proofs.Finds.{seekable}
+use Rattle.tree.proofs.Sealed.{known}
+use Rattle.tree.proofs.Turns.{none, found, index_ok, go_on, begin}
+use Rattle.tree.proofs.Trees.{read}
+use Rattle.tree.proofs.search_tree.SearchTree.seek.Goals as goal
+
+pub loop-level-init : goal.loop-level-init
+loop-level-init g c =
+    let s = c.args.self.now in
+    let h = s.head in
+    let u = known s in
+    let r = seekable s.nodes.items h u.wf in
+    let q = c.to_number-key.result in
+    let short : q < 2 ^ h.width.bits = omega (arith, u.digits.suffice, c.to_number-key.ensures.below) in
+    simp (c.of-span.ensures.low, c.of-span.ensures.half) (begin (tree_of s.nodes.items h) r.root_is r.is r.inside h.width.halved short (omega (arith, h.width.some)))
+
+pub index-node-requires : goal.index-node-requires
+index-node-requires g c = omega (arith, c.args.self.now.nodes.ok.0, index_ok c.loop-level.invariant c.in-Some.is)
+
+pub side_of-side-requires : goal.side_of-side-requires
+side_of-side-requires g c = c.loop-level.invariant.from
+
+pub loop-level-preserved : goal.loop-level-preserved
+loop-level-preserved g c =
+    let at = read c.args.self.now.nodes.items c.in-Some.i _ (index_ok c.loop-level.invariant c.in-Some.is) c.index-node.ensures in
+    simp (c.child-at.ensures, c.on-span.ensures.low, c.on-span.ensures.half) (go_on c.index-node.result.now c.side_of-side.result (rw c.in-Some.is at c.loop-level.invariant) at c.if-node-key.false c.side_of-side.ensures)
+
+pub returns-then-node-key : goal.returns-then-node-key
+returns-then-node-key g c =
+    let s = c.args.self.now in
+    let at = read s.nodes.items c.in-Some.i _ (index_ok c.loop-level.invariant c.in-Some.is) c.index-node.ensures in
+    let f = found c.index-node.result.now (rw c.in-Some.is at c.loop-level.invariant) at c.if-node-key.true in
+    subst (λ n. Held g.row.LIMIT s.nodes.items s.head n (record { at = c.in-Some.i; under = c.loop-level.under })) c.to_number-key.ensures.is
+    (record { below = c.to_number-key.ensures.below; at-is = f.0; under_is = sym f.1 })
+
+pub returns-in_default : goal.returns-in_default
+returns-in_default g c =
+    let s = c.args.self.now in
+    let f = none (rw c.in_default.is at c.loop-level.invariant) in
+    subst (λ n. Missing g.row.LIMIT s.nodes.items s.head n c.loop-level.under) c.to_number-key.ensures.is
+    (record { below = c.to_number-key.ensures.below; at-is = f.0; under_is = sym f.1 })
+
+pub returns : goal.returns
+returns g c = absurd (omega (arith, c.loop-level.invariant.depth))

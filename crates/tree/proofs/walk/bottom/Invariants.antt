@@ -1,8 +1,0 @@
--- What the loop of `bottom` keeps. Assumes nothing.
-use Rattle.std.proofs.Common.{suc, Some}
-use Rattle.tree.specs.Tree.{tree_below}
-use Rattle.tree.proofs.Feet.{Down}
-use Rattle.tree.proofs.walk.bottom.Given as goal
-
-abbrev pub invariant-loop-level : goal.invariant-loop-level
-invariant-loop-level g l = Down l.nodes l.bits l.level l.tip.at l.tip.under (tree_below (suc l.bits) l.nodes (Some l.initial.tip.at)) l.initial.tip.under
