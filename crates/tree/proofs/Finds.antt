@@ -4,6 +4,7 @@ use Rattle.std.specs.List.{slice_get}
 use Rattle.std.specs.Result.{result_ok}
 use Rattle.std.proofs.lemmas.Option.{same_Some}
 use Rattle.store.specs.Model.{at, holds}
+use Rattle.key.specs.declared.identity.Key.{Ghosts}
 use Rattle.tree.specs.declared.head.Head.{Head}
 use Rattle.tree.specs.declared.links.Link.{Link}
 use Rattle.tree.specs.declared.links.Place.{Place}
@@ -49,30 +50,30 @@ module _ {V : Type 0} where
       holds-some q _ (stored ns h) (find_some ns h u q i _ lt lo is0.0)
 
 -- of a search tree, what the walk to a key says of its entries
-module _ {K V : Type 0} {limit : ℕ} (s : SearchTree K V limit) (q : ℕ) where
+module _ {K V : Type 0} {key : Ghosts K} (s : SearchTree K V key) (q : ℕ) where
   abbrev es : List (ℕ × V)
   es = stored s.nodes.items s.head
 
-  short : q < limit → q < 2 ^ s.head.width.bits
+  short : q < key.LIMIT → q < 2 ^ s.head.width.bits
   short lt = omega (arith, (known s).digits.suffice, lt)
 
-  pub missing_none : (under : Option Link) → Missing limit s.nodes.items s.head q under → at es q ≡ None
+  pub missing_none : (under : Option Link) → Missing key.LIMIT s.nodes.items s.head q under → at es q ≡ None
   missing_none under m = find_none s.nodes.items s.head (known s).wf q (short m.below) m.at-is
 
-  pub held_within : (p : Place) → Held limit s.nodes.items s.head q p → p.at < length s.nodes.items
+  pub held_within : (p : Place) → Held key.LIMIT s.nodes.items s.head q p → p.at < length s.nodes.items
   held_within p m = (ready s.nodes.items s.head (known s).wf q p.at m.at-is).within
 
-  pub held_some : (p : Place) (n : Node V) → Held limit s.nodes.items s.head q p → slice_get s.nodes.items p.at ≡ Some n → at es q ≡ Some n.«record»
+  pub held_some : (p : Place) (n : Node V) → Held key.LIMIT s.nodes.items s.head q p → slice_get s.nodes.items p.at ≡ Some n → at es q ≡ Some n.«record»
   held_some p n m at = find_some s.nodes.items s.head (known s).wf q p.at n (short m.below) m.at-is at
 
-  pub held-holds : (p : Place) → Held limit s.nodes.items s.head q p → holds es q ≡ true
+  pub held-holds : (p : Place) → Held key.LIMIT s.nodes.items s.head q p → holds es q ≡ true
   held-holds p m = found-holds s.nodes.items s.head (known s).wf q p.at (short m.below) m.at-is
 
   -- the same of the walk's answer
-  pub sought_none : (r : Result Place (Option Link)) → Sought limit s.nodes.items s.head q r → result_ok r ≡ None → at es q ≡ None
+  pub sought_none : (r : Result Place (Option Link)) → Sought key.LIMIT s.nodes.items s.head q r → result_ok r ≡ None → at es q ≡ None
   sought_none (Ok p) m e = let z : ◌≡◌ {A = ℕ} 0 1 = cc in absurd (omega arith)
   sought_none (Err under) m e = missing_none under m
 
-  pub sought_some : (r : Result Place (Option Link)) (p : Place) → Sought limit s.nodes.items s.head q r → result_ok r ≡ Some p → Held limit s.nodes.items s.head q p
-  sought_some (Ok p') p m e = subst (Held limit s.nodes.items s.head q) (same_Some p' p e) m
+  pub sought_some : (r : Result Place (Option Link)) (p : Place) → Sought key.LIMIT s.nodes.items s.head q r → result_ok r ≡ Some p → Held key.LIMIT s.nodes.items s.head q p
+  sought_some (Ok p') p m e = subst (Held key.LIMIT s.nodes.items s.head q) (same_Some p' p e) m
   sought_some (Err under) p m e = let z : ◌≡◌ {A = ℕ} 0 1 = cc in absurd (omega arith)

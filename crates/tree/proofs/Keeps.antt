@@ -48,7 +48,7 @@ module _ {V : Type 0} where
   pub put_full : (q room : ℕ) (es : List (ℕ × V)) → get q es ≡ None → length es ≡ room → takes room es q ≡ false
   put_full q room es g len = let f : holds es q ≡ false = holds-none q es g in let le : room ≤ length es = omega arith in grind (arith, nat_tests)
 
-  pub after_clear : (limit : ℕ) (ns : List (Node V)) (w : Width) → length ns ≤ 65536 → Digits limit w.bits → Sound limit ns (blank w)
+  after_clear : (limit : ℕ) (ns : List (Node V)) (w : Width) → length ns ≤ 65536 → Digits limit w.bits → Sound limit ns (blank w)
   unfolding all_below
   after_clear limit ns w small digits = build limit ns (blank w) (record {
     t = leaf;
@@ -66,3 +66,8 @@ module _ {V : Type 0} where
     count_is = refl;
     sized = refl;
   }) refl digits
+
+  -- so it is with the head that a call writes
+  pub cleared : (limit : ℕ) (ns : List (Node V)) (w : Width) (k : Head) → k ≡ blank w → length ns ≤ 65536 → Digits limit w.bits → Sound limit ns k × (k.count ≡ length (stored ns k))
+  cleared limit ns w k e small digits =
+      let u = subst (Sound limit ns) (sym e) (after_clear limit ns w small digits) in (u, counted ns k u.wf)

@@ -3,6 +3,7 @@ use Rattle.std.proofs.Common.{◌≡◌, ℕ, zero, suc, ◌+◌, ◌-◌, ◌^�
 use mathlib.Core.Logic.{∥∥₁_elim, ∥∥₁_map}
 use mathlib.Core.HLevel.{⊥_prop}
 use Rattle.std.specs.List.{slice_get}
+use Rattle.key.specs.declared.identity.Key.{Ghosts}
 use Rattle.tree.specs.declared.head.Head.{Head}
 use Rattle.tree.specs.declared.node.Node.{Node}
 use Rattle.tree.specs.declared.search_tree.SearchTree.{SearchTree}
@@ -100,5 +101,5 @@ module _ {V : Type 0} where
   sound limit ns h w = record { wf = out ns h (∥∥₁_map w (λ u. u.wf)); lawful = out_lawful (∥∥₁_map w (λ u. u.lawful)); digits = record { some = out_le _ _ (∥∥₁_map w (λ u. u.digits.some)); suffice = out_le _ _ (∥∥₁_map w (λ u. u.digits.suffice)); least = λ m a b. out_le _ _ (∥∥₁_map w (λ u. u.digits.least m a b)) } }
 
 -- what a search tree keeps
-pub known : {K V : Type 0} {limit : ℕ} (s : SearchTree K V limit) → Sound limit s.nodes.items s.head
-known {limit = limit} s = sound limit s.nodes.items s.head s.sound
+pub known : {K V : Type 0} {key : Ghosts K} (s : SearchTree K V key) → Sound key.LIMIT s.nodes.items s.head
+known {key = key} s = sound key.LIMIT s.nodes.items s.head s.sound

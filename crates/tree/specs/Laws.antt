@@ -2,10 +2,11 @@
 use Rattle.std.proofs.Common.{sym, subst}
 use Rattle.std.proofs.Math.Logic.{∥∥₁_map}
 use Rattle.std.specs.Prelude.{ℕ}
+use Rattle.key.specs.declared.identity.Key.{Ghosts}
 use Rattle.store.specs.Model.{Lawful}
 use Rattle.tree.specs.declared.search_tree.SearchTree.{SearchTree}
 use Rattle.tree.specs.State.{stored}
 use Rattle.tree.specs.Cut.{out_lawful}
 
-pub tree_lawful : {K V : Type 0} {limit : ℕ} (s : SearchTree K V limit) → Lawful limit s.nodes.len (stored s.nodes.items s.head)
-tree_lawful {limit = limit} s = subst (λ (n : ℕ). Lawful limit n (stored s.nodes.items s.head)) (sym s.nodes.ok.0) (out_lawful (∥∥₁_map s.sound (λ u. u.lawful)))
+pub tree_lawful : {K V : Type 0} {key : Ghosts K} (s : SearchTree K V key) → Lawful key.LIMIT s.nodes.len (stored s.nodes.items s.head)
+tree_lawful {key = key} s = subst (λ (n : ℕ). Lawful key.LIMIT n (stored s.nodes.items s.head)) (sym s.nodes.ok.0) (out_lawful (∥∥₁_map s.sound (λ u. u.lawful)))

@@ -5,7 +5,7 @@ ghost use Rattle.tree.specs.Writes.{Released};
 
 use crate::node::Node;
 use crate::search_tree::SearchTree;
-use key::Refusal;
+use key::{Key, Refusal};
 
 /// A node for a new key, and what is left of the freed and of the unused nodes without it.
 #[derive(Clone, Copy)]
@@ -15,7 +15,7 @@ pub(crate) struct Spare {
     pub(crate) fresh: usize,
 }
 
-impl<K, V: Copy, const LIMIT: u64> SearchTree<K, V, LIMIT> {
+impl<K: Key, V: Copy> SearchTree<K, V> {
     /// A node that holds no record, unless every node holds one.
     pub(crate) fn reserve(&self) -> Result<Spare, Refusal>
         ensures { Reserved self.now.nodes.items self.now.head result }

@@ -54,7 +54,7 @@ impl Passed {
     }
 }
 
-impl<K: Key<LIMIT>, V: Copy, const LIMIT: u64> SearchTree<K, V, LIMIT> {
+impl<K: Key, V: Copy> SearchTree<K, V> {
     /// The least key at or below the node at `at`, or `best` if that is less. The least is on the way that keeps to the
     /// left, for every key on the left of a node is below every key on its right.
     fn least_from(&self, at: Option<u16>, best: Option<u64>) -> Option<u64>
@@ -85,7 +85,7 @@ impl<K: Key<LIMIT>, V: Copy, const LIMIT: u64> SearchTree<K, V, LIMIT> {
     /// The number of the least key above `k`: it stands on the way to `k`, or else below the last link to the right that
     /// the way passed by.
     pub(crate) fn least_above(&self, k: K) -> Option<u64>
-        ensures { result ≡ first_from (stored self.now.nodes.items self.now.head) (K.Key.number k + 1) }
+        ensures { result ≡ first_from (stored self.now.nodes.items self.now.head) (K.number k + 1) }
     {
         let key = k.to_number();
         let mut at = self.head.root;

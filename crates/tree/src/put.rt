@@ -18,13 +18,13 @@ pub(crate) fn renew<V: Copy>(nodes: &mut [Node<V>], i: u16, record: V)
     nodes[i as usize].record = record;
 }
 
-impl<K: Key<LIMIT>, V: Copy, const LIMIT: u64> SearchTree<K, V, LIMIT> {
+impl<K: Key, V: Copy> SearchTree<K, V> {
     /// Puts a new key into the spare node, below the link that its walk ends with.
     pub(crate) fn put_new(&mut self, spare: Spare, under: Option<Link>, k: K, v: V)
         requires spare { SpareNode self.old.nodes.items self.old.head spare }
-        requires missing { Missing LIMIT self.old.nodes.items self.old.head (K.Key.number k) under }
+        requires missing { Missing K.LIMIT self.old.nodes.items self.old.head (K.number k) under }
         ensures room { vec_len self.new.nodes ≡ vec_len self.old.nodes }
-        ensures entries { stored self.new.nodes.items self.new.head ≡ with_entry (stored self.old.nodes.items self.old.head) (K.Key.number k) v }
+        ensures entries { stored self.new.nodes.items self.new.head ≡ with_entry (stored self.old.nodes.items self.old.head) (K.number k) v }
     {
         attach(&mut self.nodes, under, spare.at, k.to_number(), v);
         self.head = self.head.grown(spare, under);

@@ -7,24 +7,25 @@ ghost use Rattle.tree.specs.State.{Sound, stored};
 use crate::head::Head;
 use crate::node::Node;
 use crate::width::Width;
+use key::Key;
 use std::marker::PhantomData;
 
 pub mod record_store;
 
 /// Records by key, in nodes that were handed in.
 #[derive(Drop)]
-pub struct SearchTree<K, V, const LIMIT: u64> {
+pub struct SearchTree<K: Key, V> {
     pub(crate) nodes: Vec<Node<V>>,
     pub(crate) head: Head,
     keys: PhantomData<K>,
-    ghost sound: { ∥ Sound LIMIT nodes.items head ∥₁ },
+    ghost sound: { ∥ Sound K.LIMIT nodes.items head ∥₁ },
     ghost counted: { head.count ≡ length (stored nodes.items head) },
 }
 
-impl<K, V: Copy, const LIMIT: u64> SearchTree<K, V, LIMIT> {
+impl<K: Key, V: Copy> SearchTree<K, V> {
     /// An empty store in the nodes, or in the first 65,536 of them. These are its room, so a put is refused as full
     /// only once every one of them holds a record.
-    pub fn over(nodes: Vec<Node<V>>) -> SearchTree<K, V, LIMIT>
+    pub fn over(nodes: Vec<Node<V>>) -> SearchTree<K, V>
         ensures room { vec_len result.nodes ≡ min (vec_len nodes) 65536 }
         ensures empty { stored result.nodes.items result.head ≡ [] }
     {
@@ -32,7 +33,7 @@ impl<K, V: Copy, const LIMIT: u64> SearchTree<K, V, LIMIT> {
         nodes.truncate(65536);
         SearchTree {
             nodes,
-            head: Head::empty(Width::of(LIMIT)),
+            head: Head::empty(Width::of(K::LIMIT)),
             keys: PhantomData,
         }
     }
@@ -40,7 +41,7 @@ impl<K, V: Copy, const LIMIT: u64> SearchTree<K, V, LIMIT> {
     /// How many binary digits a key has. No walk visits more nodes than that, plus one: no way down through the nodes,
     /// left or right at each, is longer, whatever keys came and went.
     pub fn key_digits(&self) -> u8
-        ensures digits { Digits LIMIT result }
+        ensures digits { Digits K.LIMIT result }
         ensures short { (way : List ℕ) → Way self.now.nodes.items self.now.head.root way → length way ≤ result + 1 }
     {
         self.head.width.bits

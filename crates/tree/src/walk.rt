@@ -10,11 +10,11 @@ use crate::search_tree::SearchTree;
 use crate::span::Span;
 use key::Key;
 
-impl<K: Key<LIMIT>, V: Copy, const LIMIT: u64> SearchTree<K, V, LIMIT> {
+impl<K: Key, V: Copy> SearchTree<K, V> {
     /// The place of the node that holds a key, on the way that the key's own binary digits show; or the link where
     /// that way ends, unless it is the root's.
     pub(crate) fn seek(&self, k: K) -> Result<Place, Option<Link>>
-        ensures { Sought LIMIT self.now.nodes.items self.now.head (K.Key.number k) result }
+        ensures { Sought K.LIMIT self.now.nodes.items self.now.head (K.number k) result }
     {
         let key = k.to_number();
         let mut at = self.head.root;
@@ -38,7 +38,7 @@ impl<K: Key<LIMIT>, V: Copy, const LIMIT: u64> SearchTree<K, V, LIMIT> {
 
     /// A node with no child, at or below one that holds a key.
     pub(crate) fn bottom(&self, from: Place) -> Place
-        requires { (q : ℕ) × Held LIMIT self.now.nodes.items self.now.head q from }
+        requires { (q : ℕ) × Held K.LIMIT self.now.nodes.items self.now.head q from }
         ensures { Bottom (tree_below (suc self.now.head.width.bits) self.now.nodes.items (Some from.at)) from.under result.at result.under }
     {
         let mut tip = from;

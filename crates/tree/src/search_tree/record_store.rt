@@ -10,13 +10,10 @@ use crate::search_tree::SearchTree;
 use key::{Key, Refusal};
 use store::RecordStore;
 
-impl<K: Key<LIMIT>, V: Copy, const LIMIT: u64> RecordStore<K, V, LIMIT>
-    for SearchTree<K, V, LIMIT> {
+impl<K: Key, V: Copy> RecordStore<K, V> for SearchTree<K, V> {
     ghost entries = { λ s. stored s.nodes.items s.head };
 
     ghost room = { λ s. vec_len s.nodes };
-
-    ghost lawful = { tree_lawful };
 
     fn count(&self) -> usize {
         self.head.count
@@ -66,4 +63,6 @@ impl<K: Key<LIMIT>, V: Copy, const LIMIT: u64> RecordStore<K, V, LIMIT>
     fn clear(&mut self) {
         self.head = Head::empty(self.head.width);
     }
+
+    ghost lawful = { tree_lawful };
 }

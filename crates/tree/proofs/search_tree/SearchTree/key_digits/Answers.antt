@@ -1,13 +1,12 @@
 -- The answers of `key_digits`. Assumes nothing.
 use Rattle.std.proofs.Common.{add-one}
 use Rattle.tree.proofs.Finds.{seekable}
-use Rattle.tree.proofs.Sealed.{sound}
+use Rattle.tree.proofs.Sealed.{known}
 use Rattle.tree.proofs.Trees.{way_short}
 use Rattle.tree.proofs.search_tree.SearchTree.key_digits.Goals as goal
 
 pub returns : goal.returns
 returns g c =
     let s = c.args.self.now in
-    let u = sound g.row.LIMIT s.nodes.items s.head s.sound in
-    let w = seekable s.nodes.items s.head u.wf in
-    record { digits = u.digits; short = λ way down. rw add-one (way_short s.nodes.items s.head.width.bits 0 _ s.head.root w.root_is w.inside w.is way down) }
+    let w = seekable s.nodes.items s.head (known s).wf in
+    record { digits = (known s).digits; short = λ way down. rw add-one (way_short s.nodes.items s.head.width.bits 0 _ s.head.root w.root_is w.inside w.is way down) }

@@ -1,5 +1,5 @@
 -- The answers of `least`. Assumes nothing.
-use Rattle.std.proofs.Common.{◌∙◌, arith}
+use Rattle.std.proofs.Common.{◌∙◌}
 use Rattle.tree.proofs.Finds.{seekable}
 use Rattle.tree.proofs.Hunts.{first-least}
 use Rattle.tree.proofs.Sealed.{known}
@@ -9,7 +9,7 @@ pub least_from-requires : goal.least_from-requires
 least_from-requires g c =
     let s = c.args.self.now in
     let r = seekable s.nodes.items s.head (known s).wf in
-    (omega arith, (r.root_is, r.is))
+    record { link = r.root_is; tree = r.is }
 
 pub returns : goal.returns
 returns g c =

@@ -19,7 +19,7 @@ loop-level-init g c =
     simp (c.of-span.ensures.low, c.of-span.ensures.half) (hunt_begin (tree_of s.nodes.items h) r.root_is r.is r.inside h.width.halved short h.width.some)
 
 pub least_from-requires : goal.least_from-requires
-least_from-requires g c = let b = aside c.loop-level.invariant in (omega arith, (b.link-is, b.is))
+least_from-requires g c = let b = aside c.loop-level.invariant in record { link = b.link-is; tree = b.is }
 
 pub index-node-requires : goal.index-node-requires
 index-node-requires g c = omega (arith, c.args.self.now.nodes.ok.0, hunt_ok c.loop-level.invariant c.in-Some.is)
@@ -43,7 +43,7 @@ returns-in_default g c =
     c.least_from.ensures ∙ hunt_none c.loop-level.invariant c.in_default.is ∙ next-first s.nodes.items s.head q u.wf short ∙ ap (λ (n : ℕ). first_from (stored s.nodes.items s.head) (n + 1)) c.to_number-key.ensures.is
 
 pub least_from-requires-2 : goal.least_from-requires-2
-least_from-requires-2 g c = let b = aside c.loop-level.invariant in (omega arith, (b.link-is, b.is))
+least_from-requires-2 g c = let b = aside c.loop-level.invariant in record { link = b.link-is; tree = b.is }
 
 pub returns : goal.returns
 returns g c =

@@ -33,14 +33,14 @@ returns-then-node-key g c =
     let s = c.args.self.now in
     let at = read s.nodes.items c.in-Some.i _ (index_ok c.loop-level.invariant c.in-Some.is) c.index-node.ensures in
     let f = found c.index-node.result.now (rw c.in-Some.is at c.loop-level.invariant) at c.if-node-key.true in
-    subst (λ n. Held g.row.LIMIT s.nodes.items s.head n (record { at = c.in-Some.i; under = c.loop-level.under })) c.to_number-key.ensures.is
+    subst (λ n. Held g.K.Key.LIMIT s.nodes.items s.head n (record { at = c.in-Some.i; under = c.loop-level.under })) c.to_number-key.ensures.is
     (record { below = c.to_number-key.ensures.below; at-is = f.0; under_is = sym f.1 })
 
 pub returns-in_default : goal.returns-in_default
 returns-in_default g c =
     let s = c.args.self.now in
     let f = none (rw c.in_default.is at c.loop-level.invariant) in
-    subst (λ n. Missing g.row.LIMIT s.nodes.items s.head n c.loop-level.under) c.to_number-key.ensures.is
+    subst (λ n. Missing g.K.Key.LIMIT s.nodes.items s.head n c.loop-level.under) c.to_number-key.ensures.is
     (record { below = c.to_number-key.ensures.below; at-is = f.0; under_is = sym f.1 })
 
 pub returns : goal.returns

@@ -24,4 +24,4 @@ returns g c =
       | in-None w ↦ w.found-is ∙ w.least-found.ensures ∙ ap (λ o. first_from es (start (numbered g.K.Key.number o))) (sym w.in-None.is)
     ] in
     let first : first_from es (start (numbered g.K.Key.number c.args.above.now)) ≡ Some n = sym from ∙ c.in_ok-found.was in
-    made_again g.K.Key.number g.row.LIMIT n c.from_number.result (first_below g.row.LIMIT _ n es (known s).lawful.valid first) c.from_number.ensures ∙ sym first
+    made_again g.K.Key.number g.K.Key.LIMIT n c.from_number.result (first_below g.K.Key.LIMIT _ n es (known s).lawful.valid first) c.from_number.ensures ∙ sym first
