@@ -1,5 +1,5 @@
 -- A tree without one of its childless forks, and the walk down to one. Assumes nothing.
-use Rattle.std.proofs.Common.{◌≡◌, ℕ, zero, suc, ◌+◌, ◌^◌, ◌<◌, ◌≤◌, Bool, true, false, cond, eqb, ◌⊎◌, List, length, Some, None, Option, sym, refl, ap, ◌∙◌, subst, inl, inr, ⊎_elim, arith}
+use Rattle.std.proofs.Common.{◌≡◌, ℕ, zero, suc, ◌+◌, ◌^◌, ◌<◌, ◌≤◌, Bool, true, false, cond, eqb, List, length, Some, None, Option, sym, refl, ap, ◌∙◌, subst, inl, inr, ⊎_elim, arith}
 use native.Mathlib.Nat.{two-pow-succ}
 use Rattle.std.proofs.lemmas.Bool.{cases_eq}
 use Rattle.std.specs.List.{slice_get}
@@ -9,12 +9,13 @@ use Rattle.tree.specs.declared.links.Side.{Side}
 use Rattle.tree.specs.declared.links.Side.TheVariants.{Left, Right}
 use Rattle.tree.specs.declared.node.Node.{Node}
 use Rattle.tree.specs.Feet.{Foot, Bottom}
-use Rattle.tree.specs.Tree.{Tree, leaf, fork, node_of, link, Laid, Inside, occurs, size, one, record_of, Distinct, Levels, on}
+use Rattle.tree.specs.Tree.{Tree, leaf, fork, node_of, link, Laid, Inside, occurs, size, one, record_of, Distinct, Levels, tree_below, on}
 use Rattle.tree.specs.Writes.{child, with_link}
+use Rattle.tree.proofs.Depths.{levels_below}
 use Rattle.tree.proofs.Ends.{first}
 use Rattle.tree.proofs.Entries.{yes_eq, no_eq}
 use Rattle.tree.proofs.Trees.{one_same, At, outside, same, nth_lt}
-use Rattle.tree.proofs.Turns.{forked}
+use Rattle.tree.proofs.Turns.{forked, fewer}
 
 pub off_other : (p q : ℕ) (a b : Side) (u : Option Link) → u ≡ Some (on p a) → u ≡ Some (on q b) → p ≡ q
 off_other p q a b u e f = ap first (sym e ∙ f)
@@ -188,24 +189,22 @@ module _ {V : Type 0} where
       ]
 
   -- a turn of the walk down: a foot of the subtree is one of the whole
-  pub record Down (ns : List (Node V)) (bits d at : ℕ) (under : Option Link) (s : Tree V) (start : Option Link) : Type 0 where
-    pub h : ℕ
+  pub record Down (ns : List (Node V)) (bits at : ℕ) (under : Option Link) (s : Tree V) (start : Option Link) : Type 0 where
     pub t : Tree V
-    pub depth : h + d ≡ bits
     pub at-is : Some at ≡ link t
     pub is : Laid ns t
-    pub high : Levels h t
+    pub high : Levels bits t
     pub back : (m km : ℕ) (vm : V) (c : Tree V) (u : Option Link) → Foot t under m km vm c u → Bottom s start m u
 
-  pub down_ok : {ns : List (Node V)} {bits d at : ℕ} {under start : Option Link} {s : Tree V} → Down ns bits d at under s start → at < length ns
+  pub down_ok : {ns : List (Node V)} {bits at : ℕ} {under start : Option Link} {s : Tree V} → Down ns bits at under s start → at < length ns
   down_ok {ns} {at = at} w = let a = forked ns at w.t w.at-is w.is in nth_lt ns at _ a.node
 
   leafed : (t : Tree V) → None ≡ link t → t ≡ leaf
   leafed leaf e = refl
   leafed (fork j k v l r) e = let g : None ≡ Some j = e in let z : ◌≡◌ {A = ℕ} 0 1 = cc in absurd (omega arith)
 
-  pub down_end : {ns : List (Node V)} {bits d at : ℕ} {under start : Option Link} {s : Tree V} (n : Node V) → Down ns bits d at under s start → slice_get ns at ≡ Some n → n.left ≡ None → n.right ≡ None → Bottom s start at under
-  down_end {ns} {bits} {d} {at} {under} {start} {s} n w e nl nr =
+  pub down_end : {ns : List (Node V)} {bits at : ℕ} {under start : Option Link} {s : Tree V} (n : Node V) → Down ns bits at under s start → slice_get ns at ≡ Some n → n.left ≡ None → n.right ≡ None → Bottom s start at under
+  down_end {ns} {bits} {at} {under} {start} {s} n w e nl nr =
       let a = forked ns at w.t w.at-is w.is in
       let node : slice_get ns at ≡ Some (node_of a.k a.v (link a.l) (link a.r)) = a.node in
       let eq : n ≡ node_of a.k a.v (link a.l) (link a.r) = cc in
@@ -213,61 +212,47 @@ module _ {V : Type 0} where
       let rr : a.r ≡ leaf = leafed a.r (sym nr ∙ ap (λ (x : Node V). x.right) eq) in
       w.back at a.k a.v leaf under (subst (λ (x : Tree V). Foot x under at a.k a.v leaf under) (sym a.is) (inl (ll, rr, refl, refl, refl, refl, refl)))
 
-  -- at the deepest level there is no child
-  pub down_last : {ns : List (Node V)} {bits d at : ℕ} {under start : Option Link} {s : Tree V} → Down ns bits d at under s start → bits ≤ d → Bottom s start at under
-  down_last {ns} {bits} {d} {at} {under} {start} {s} w le =
-      let a = forked ns at w.t w.at-is w.is in
-      let z : w.h ≡ 0 = omega (arith, w.depth) in
-      let hi : Levels 0 (fork at a.k a.v a.l a.r) = subst (λ (x : ℕ). Levels x (fork at a.k a.v a.l a.r)) z (subst (Levels w.h) a.is w.high) in
-      w.back at a.k a.v leaf under (subst (λ (x : Tree V). Foot x under at a.k a.v leaf under) (sym a.is) (inl (hi.0, hi.1, refl, refl, refl, refl, refl)))
-
-  down_high : (h at k : ℕ) (v : V) (l r : Tree V) (i : ℕ) → Levels h (fork at k v l r) → (Some i ≡ link l) ⊎ (Some i ≡ link r) → (p : ℕ) × (h ≡ suc p) × Levels p l × Levels p r
-  down_high zero at k v l r i hi e = ⊎_elim
-      (λ e. let z = e ∙ ap link hi.0 in let y : ◌≡◌ {A = ℕ} 0 1 = cc in absurd (omega arith))
-      (λ e. let z = e ∙ ap link hi.1 in let y : ◌≡◌ {A = ℕ} 0 1 = cc in absurd (omega arith)) e
-  down_high (suc h) at k v l r i hi e = (h, refl, hi.0, hi.1)
-
-  down_left : {ns : List (Node V)} {bits d at i : ℕ} {under start : Option Link} {s : Tree V} (n : Node V) → Down ns bits d at under s start → slice_get ns at ≡ Some n → n.left ≡ Some i → Down ns bits (d + 1) i (Some (on at Left)) s start
-  down_left {ns} {bits} {d} {at} {i} {under} {start} {s} n w e nl =
+  down_left : {ns : List (Node V)} {bits at i : ℕ} {under start : Option Link} {s : Tree V} (n : Node V) → Down ns bits at under s start → slice_get ns at ≡ Some n → n.left ≡ Some i → Down ns bits i (Some (on at Left)) s start
+  down_left {ns} {bits} {at} {i} {under} {start} {s} n w e nl =
       let a = forked ns at w.t w.at-is w.is in
       let node : slice_get ns at ≡ Some (node_of a.k a.v (link a.l) (link a.r)) = a.node in
       let eq : n ≡ node_of a.k a.v (link a.l) (link a.r) = cc in
       let li : Some i ≡ link a.l = sym nl ∙ ap (λ (x : Node V). x.left) eq in
-      let hi = down_high w.h at a.k a.v a.l a.r i (subst (Levels w.h) a.is w.high) (inl li) in
+      let hi = levels_below bits at a.k a.v a.l a.r (subst (Levels bits) a.is w.high) in
       record {
-        h = hi.0;
         t = a.l;
-        depth = omega (arith, w.depth, hi.1);
         at-is = li;
         is = a.left_is;
-        high = hi.2;
+        high = hi.0;
         back = λ m km vm c u f. w.back m km vm (fork at a.k a.v c a.r) u (subst (λ (x : Tree V). Foot x under m km vm (fork at a.k a.v c a.r) u) (sym a.is) (inr (inl (c, f, refl))));
       }
 
-  down_right : {ns : List (Node V)} {bits d at i : ℕ} {under start : Option Link} {s : Tree V} (n : Node V) → Down ns bits d at under s start → slice_get ns at ≡ Some n → n.right ≡ Some i → Down ns bits (d + 1) i (Some (on at Right)) s start
-  down_right {ns} {bits} {d} {at} {i} {under} {start} {s} n w e nl =
+  down_right : {ns : List (Node V)} {bits at i : ℕ} {under start : Option Link} {s : Tree V} (n : Node V) → Down ns bits at under s start → slice_get ns at ≡ Some n → n.right ≡ Some i → Down ns bits i (Some (on at Right)) s start
+  down_right {ns} {bits} {at} {i} {under} {start} {s} n w e nl =
       let a = forked ns at w.t w.at-is w.is in
       let node : slice_get ns at ≡ Some (node_of a.k a.v (link a.l) (link a.r)) = a.node in
       let eq : n ≡ node_of a.k a.v (link a.l) (link a.r) = cc in
       let li : Some i ≡ link a.r = sym nl ∙ ap (λ (x : Node V). x.right) eq in
-      let hi = down_high w.h at a.k a.v a.l a.r i (subst (Levels w.h) a.is w.high) (inr li) in
+      let hi = levels_below bits at a.k a.v a.l a.r (subst (Levels bits) a.is w.high) in
       record {
-        h = hi.0;
         t = a.r;
-        depth = omega (arith, w.depth, hi.1);
         at-is = li;
         is = a.right_is;
-        high = hi.3;
+        high = hi.1;
         back = λ m km vm c u f. w.back m km vm (fork at a.k a.v a.l c) u (subst (λ (x : Tree V). Foot x under m km vm (fork at a.k a.v a.l c) u) (sym a.is) (inr (inr (c, f, refl))));
       }
 
   -- a turn to a side on which there is a child
-  pub down_on : {ns : List (Node V)} {bits d at i : ℕ} {under start : Option Link} {s : Tree V} (n : Node V) (e : Side) → Down ns bits d at under s start → slice_get ns at ≡ Some n → child e n ≡ Some i → Down ns bits (d + 1) i (Some (on at e)) s start
+  pub down_on : {ns : List (Node V)} {bits at i : ℕ} {under start : Option Link} {s : Tree V} (n : Node V) (e : Side) → Down ns bits at under s start → slice_get ns at ≡ Some n → child e n ≡ Some i → Down ns bits i (Some (on at e)) s start
   down_on n Left w at c = down_left n w at c
   down_on n Right w at c = down_right n w at c
 
-  pub down_begin : {ns : List (Node V)} {bits at : ℕ} {under : Option Link} (s : Tree V) → Some at ≡ link s → Laid ns s → Levels bits s → Down ns bits 0 at under s under
-  down_begin {bits = bits} s e is hi = record { h = bits; t = s; depth = omega arith; at-is = e; is = is; high = hi; back = λ m km vm c u f. record { km = km; vm = vm; c = c; foot = f } }
+  -- and fewer nodes are below
+  pub down-fewer : {ns : List (Node V)} {bits at i : ℕ} {under start : Option Link} {s : Tree V} (n : Node V) (e : Side) → Down ns bits at under s start → slice_get ns at ≡ Some n → child e n ≡ Some i → size (tree_below (suc bits) ns (Some i)) < size (tree_below (suc bits) ns (Some at))
+  down-fewer {ns} {bits} {at} n e w nt c = rw (← c) (fewer ns bits at w.t n e w.at-is w.is w.high nt)
+
+  pub down_begin : {ns : List (Node V)} {bits at : ℕ} {under : Option Link} (s : Tree V) → Some at ≡ link s → Laid ns s → Levels bits s → Down ns bits at under s under
+  down_begin {bits = bits} s e is hi = record { t = s; at-is = e; is = is; high = hi; back = λ m km vm c u f. record { km = km; vm = vm; c = c; foot = f } }
 
   -- the top of a foot's tree may take the foot's key and record
   pub foot-crown : (j k : ℕ) (v : V) (l r : Tree V) (d : Option Link) (m km : ℕ) (vm : V) (c : Tree V) (u : Option Link) → Foot (fork j k v l r) d m km vm c u → Foot (fork j km vm l r) d m km vm (crown km vm c) u

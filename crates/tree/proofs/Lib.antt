@@ -1,4 +1,5 @@
 pub mod Above
+pub mod Depths
 pub mod Ends
 pub mod Entries
 pub mod Feet

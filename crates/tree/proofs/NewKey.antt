@@ -14,9 +14,10 @@ use Rattle.tree.specs.State.{SpareNode, listed, Chain, WellFormed, tree_of, stor
 use Rattle.tree.specs.Heads.{rooted_at}
 use Rattle.tree.specs.Tree.{Tree, leaf, fork, link, Laid, Inside, place_of, last_link, tree_below, pour, occurs, size, one, record_of, on}
 use Rattle.tree.specs.Writes.{with_link, Attached, Linked, Elsewhere, Beside}
+use Rattle.tree.proofs.Depths.{tree_is}
 use Rattle.tree.proofs.Ends.{end, put_at, first, way, here, left, right, in_at, cnt_at, size-at, val_end, val_other, once-at, near, stop, deep, is_at}
 use Rattle.tree.proofs.Entries.{get, ins, get_nil, yes_eq, no_eq, yes_lt, no_lt, sorted_ins, get-ins, same_entries, length-ins}
-use Rattle.tree.proofs.Trees.{or-none, occurs-within, one_same, At, at_left, at_right, get-pour, sorted_pour, miss_ne, val_none, tree_is}
+use Rattle.tree.proofs.Trees.{or-none, occurs-within, one_same, At, at_left, at_right, get-pour, sorted_pour, miss_ne, val_none}
 
 pub off_of : (x : ℕ) (um : Option Link) → ((p : ℕ) (side : Side) → um ≡ Some (on p side) → x ≡ p → ⊥) → Elsewhere x um
 off_of x None f = tt

@@ -14,6 +14,7 @@ use Rattle.tree.specs.State.{Chain, WellFormed, tree_of, stored}
 use Rattle.tree.specs.Heads.{rooted_at}
 use Rattle.tree.specs.Tree.{Tree, leaf, fork, node_of, link, Laid, Inside, place_of, last_link, tree_below, pour, occurs, size, one, record_of, Distinct, Levels, on}
 use Rattle.tree.specs.Writes.{with_link, Stands, Relinked, Promoted, Released}
+use Rattle.tree.proofs.Depths.{in_high, tree_high}
 use Rattle.tree.proofs.Ends.{end, put_at, way, here, left, right, in_at, cnt_at, size-at, val_end, val_other, once-at, cnt_end, stop, deep, near, is_at}
 use Rattle.tree.proofs.Entries.{yes_eq, no_eq, sorted_del, get-del, same_entries, length-del, get, del}
 use Rattle.tree.proofs.Feet.{crown, off_other, foot_cnt, foot-size, foot_in, foot_node, foot-is, foot-crown, all, part, hold, Freed, cnt_crown, size-crown, link-crown, in_crown, Crowned, crowned}
@@ -53,22 +54,6 @@ module _ {V : Type 0} where
     | right ne w en pu la lo ↦ (let m = topped ns q h (low + 2 ^ h) i r inn.3 is.2 o.3 (sym lo ∙ e) in
         subst (Top ns q (suc h) i) (sym en) (record { v = m.v; l = m.l; r = m.r; top = m.top; h' = m.h'; low' = m.low'; less = omega (arith, m.less); inside = m.inside; is = m.is; once = m.once }))
   ]
-
-  pub in_high : (h low f : ℕ) (t : Tree V) → Inside h low t → h ≤ f → Levels f t
-  in_high h low f leaf inn le = tt
-  in_high zero low zero (fork j k v l r) inn le = (inn.1, inn.2)
-  in_high zero low (suc f) (fork j k v l r) inn le = (subst (Levels f) (sym inn.1) tt, subst (Levels f) (sym inn.2) tt)
-  in_high (suc h) low zero (fork j k v l r) inn le = absurd (omega arith)
-  in_high (suc h) low (suc f) (fork j k v l r) inn le = (in_high h low f l inn.2 (omega arith), in_high h (low + 2 ^ h) f r inn.3 (omega arith))
-
-  pub tree_high : (ns : List (Node V)) (f : ℕ) (t : Tree V) → Levels f t → Laid ns t → tree_below (suc f) ns (link t) ≡ t
-  tree_high ns f leaf hi is = refl
-  tree_high ns zero (fork j k v l r) hi is =
-      let F : Option (Node V) → Tree V = λ o. elim o [ None ↦ leaf | Some n ↦ fork j n.key n.«record» leaf leaf ] in
-      ap F is.0 ∙ ap (λ (x : Tree V). fork j k v x leaf) (sym hi.0) ∙ ap (λ (x : Tree V). fork j k v l x) (sym hi.1)
-  tree_high ns (suc f) (fork j k v l r) hi is =
-      let F : Option (Node V) → Tree V = λ o. elim o [ None ↦ leaf | Some n ↦ fork j n.key n.«record» (tree_below (suc f) ns n.left) (tree_below (suc f) ns n.right) ] in
-      ap F is.0 ∙ ap (λ (x : Tree V). fork j k v x (tree_below (suc f) ns (link r))) (tree_high ns f l hi.0 is.1) ∙ ap (λ (x : Tree V). fork j k v l x) (tree_high ns f r hi.1 is.2)
 
   -- the last link stands above the end of the walk, and leads there
   pub data Lead (ns : List (Node V)) (q h low : ℕ) (t : Tree V) (d : Option Link) : Type 0 where

@@ -1,5 +1,5 @@
 -- What a tree holds, how deep it is, and what writes elsewhere leave of it. Assumes nothing.
-use Rattle.std.proofs.Common.{◌≡◌, ℕ, zero, suc, ◌+◌, ◌^◌, ◌<◌, ◌≤◌, ◌⊎◌, List, [], ◌∷◌, length, get_or, Some, None, Option, sym, refl, ap, ◌∙◌, subst, inl, inr, ⊎_elim, arith}
+use Rattle.std.proofs.Common.{◌≡◌, ℕ, zero, suc, ◌+◌, ◌^◌, ◌<◌, ◌≤◌, ◌⊎◌, List, length, get_or, Some, None, Option, sym, refl, ap, ◌∙◌, subst, inl, inr, ⊎_elim, arith}
 use mathlib.Core.Logic.{⊎_swap}
 use native.Mathlib.Nat.{two-pow-succ}
 use Rattle.std.proofs.lemmas.Bool.{cases_lt, cases_eq}
@@ -7,7 +7,7 @@ use Rattle.std.proofs.lemmas.Option.{slice_get_past, slice_get_read}
 use Rattle.std.specs.List.{slice_get}
 use Rattle.std.specs.Option.{option_or}
 use Rattle.tree.specs.declared.node.Node.{Node}
-use Rattle.tree.specs.Tree.{Tree, leaf, fork, link, Laid, Inside, place_of, tree_below, pour, occurs, one, record_of, node_of, Way}
+use Rattle.tree.specs.Tree.{Tree, leaf, fork, Laid, Inside, place_of, pour, occurs, one, record_of}
 use Rattle.tree.proofs.Entries.{get, Sorted, yes_eq, no_eq, yes_lt, no_lt, sorted_ins, get-ins}
 
 pub one_same : (x j : ℕ) → x ≡ j → one x j ≡ 1
@@ -87,16 +87,6 @@ module _ {V : Type 0} where
       (λ w. ap (λ (x : Option V). option_or x (record_of q r)) (outside q h low l inn.2 (inr w)) ∙ val_none q h (low + 2 ^ h) r inn.3 (at_right q h low a w) (miss_right q h low j k v l r n w))
       (cases_lt q (low + 2 ^ h))
 
-  -- the tree is what the nodes hold below its link
-  pub tree_is : (ns : List (Node V)) (h low : ℕ) (t : Tree V) → Inside h low t → Laid ns t → tree_below (suc h) ns (link t) ≡ t
-  tree_is ns h low leaf inn is = refl
-  tree_is ns zero low (fork j k v l r) inn is =
-      let F : Option (Node V) → Tree V = λ o. elim o [ None ↦ leaf | Some n ↦ fork j n.key n.«record» leaf leaf ] in
-      ap F is.0 ∙ ap (λ (x : Tree V). fork j k v x leaf) (sym inn.1) ∙ ap (λ (x : Tree V). fork j k v l x) (sym inn.2)
-  tree_is ns (suc h) low (fork j k v l r) inn is =
-      let F : Option (Node V) → Tree V = λ o. elim o [ None ↦ leaf | Some n ↦ fork j n.key n.«record» (tree_below (suc h) ns n.left) (tree_below (suc h) ns n.right) ] in
-      ap F is.0 ∙ ap (λ (x : Tree V). fork j k v x (tree_below (suc h) ns (link r))) (tree_is ns h low l inn.2 is.1) ∙ ap (λ (x : Tree V). fork j k v l x) (tree_is ns h (low + 2 ^ h) r inn.3 is.2)
-
   -- the node that the code reads
   pub read : (ns : List (Node V)) (i : ℕ) (n : Node V) → i < length ns → n ≡ get_or ns i n → slice_get ns i ≡ Some n
   read ns i n lt e = slice_get_read ns (length ns) i n refl lt e
@@ -110,25 +100,3 @@ module _ {V : Type 0} where
       (λ e. subst (λ (x : ℕ). x < length ns) (sym e) (nth_lt ns j _ is.0))
       (λ ne. ⊎_elim (λ a. occurs-within ns p l is.1 a) (λ (a : occurs p l < 1). occurs-within ns p r is.2 (let o : one p j ≡ 0 = one_other p j ne in omega arith)) (⊎_swap (cases_lt (occurs p l) 1)))
       (cases_eq p j)
-
-  -- the node that a way comes to is the fork's
-  below : (ns : List (Node V)) (p k : ℕ) (v : V) (l r : Tree V) (i : Option ℕ) (j : ℕ) (n : Node V) → i ≡ Some p → i ≡ Some j → slice_get ns p ≡ Some (node_of k v (link l) (link r)) → slice_get ns j ≡ Some n → n ≡ node_of k v (link l) (link r)
-  below ns p k v l r i j n e f a b = let pj : p ≡ j = cc in let c : slice_get ns p ≡ Some n = ap (slice_get ns) pj ∙ b in cc
-
-  -- no way down visits more nodes than the interval can be halved, plus one
-  pub way_short : (ns : List (Node V)) (h low : ℕ) (t : Tree V) (i : Option ℕ) → i ≡ link t → Inside h low t → Laid ns t → (js : List ℕ) → Way ns i js → length js ≤ suc h
-  way_short ns h low t i e inn is [] w = omega arith
-  way_short ns h low leaf i e inn is (j ∷ js) w = let f : i ≡ Some j = w.0 in let z : ◌≡◌ {A = ℕ} 0 1 = cc in absurd (omega arith)
-  way_short ns zero low (fork p k v l r) i e inn is (j ∷ js) w =
-      let s = below ns p k v l r i j w.1.0 e w.0 is.0 w.1.1 in
-      ⊎_elim (λ u. ended js _ (ap (λ (x : Node V). x.left) s ∙ ap link inn.1) u) (λ u. ended js _ (ap (λ (x : Node V). x.right) s ∙ ap link inn.2) u) w.1.2
-    where
-      ended : (js : List ℕ) (o : Option ℕ) → o ≡ None → Way ns o js → length (j ∷ js) ≤ 1
-      ended [] o e u = omega arith
-      ended (x ∷ js) o e u = let f : o ≡ Some x = u.0 in let z : ◌≡◌ {A = ℕ} 0 1 = cc in absurd (omega arith)
-  way_short ns (suc h) low (fork p k v l r) i e inn is (j ∷ js) w =
-      let s = below ns p k v l r i j w.1.0 e w.0 is.0 w.1.1 in
-      ⊎_elim
-      (λ u. let ih = way_short ns h low l _ (ap (λ (x : Node V). x.left) s) inn.2 is.1 js u in omega (arith, ih))
-      (λ u. let ih = way_short ns h (low + 2 ^ h) r _ (ap (λ (x : Node V). x.right) s) inn.3 is.2 js u in omega (arith, ih))
-      w.1.2

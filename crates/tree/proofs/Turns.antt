@@ -8,8 +8,9 @@ use Rattle.tree.specs.declared.links.Link.{Link}
 use Rattle.tree.specs.declared.links.Side.{Side}
 use Rattle.tree.specs.declared.links.Side.TheVariants.{Left, Right}
 use Rattle.tree.specs.declared.node.Node.{Node}
-use Rattle.tree.specs.Tree.{Tree, leaf, fork, node_of, link, Laid, Inside, place_of, last_link, on}
+use Rattle.tree.specs.Tree.{Tree, leaf, fork, node_of, link, Laid, Inside, Levels, place_of, last_link, tree_below, size, on}
 use Rattle.tree.specs.Writes.{child, low_on}
+use Rattle.tree.proofs.Depths.{in_high, tree_high, levels_below}
 use Rattle.tree.proofs.Entries.{yes_eq, no_eq, yes_lt, no_lt}
 use Rattle.tree.proofs.Trees.{nth_lt}
 
@@ -30,10 +31,10 @@ went_right q m s e f = ⊎_elim (λ w. let g : Left ≡ Right = sym (yes_lt q m 
 
 module _ {V : Type 0} where
   -- where the walk has come to: a subtree at which the answer `goal k h low t` is still to be found
-  pub record Turn (ns : List (Node V)) (k bits d : ℕ) (at : Option ℕ) (low half : ℕ) (under : Option Link) (goal : Option ℕ) (end : Option Link) : Type 0 where
+  pub record Turn (ns : List (Node V)) (k bits : ℕ) (at : Option ℕ) (low half : ℕ) (under : Option Link) (goal : Option ℕ) (end : Option Link) : Type 0 where
     pub h : ℕ
     pub t : Tree V
-    pub depth : h + d ≡ bits
+    pub within : h ≤ bits
     pub at-is : at ≡ link t
     pub is : Laid ns t
     pub inside : Inside h low t
@@ -51,7 +52,7 @@ module _ {V : Type 0} where
   none_last k h low d leaf is = refl
   none_last k h low d (fork j q v l r) is = let e : None ≡ Some j = is in cc
 
-  pub none : {ns : List (Node V)} {k bits d low half : ℕ} {goal : Option ℕ} {under end : Option Link} → Turn ns k bits d None low half under goal end → (goal ≡ None) × (end ≡ under)
+  pub none : {ns : List (Node V)} {k bits low half : ℕ} {goal : Option ℕ} {under end : Option Link} → Turn ns k bits None low half under goal end → (goal ≡ None) × (end ≡ under)
   none {k = k} {low = low} {under = under} u = (u.ends ∙ none-at k u.h low u.t u.at-is, u.lasts ∙ none_last k u.h low under u.t u.at-is)
 
   -- a tree whose link is i has a fork there
@@ -71,12 +72,21 @@ module _ {V : Type 0} where
       let f : Some i ≡ Some j = at in let ij : i ≡ j = cc in
       record { k = k; v = v; l = l; r = r; is = cc; node = rw ij is.0; left_is = is.1; right_is = is.2 }
 
-  pub index_ok : {ns : List (Node V)} {k bits d low half i : ℕ} {at goal : Option ℕ} {under end : Option Link} → Turn ns k bits d at low half under goal end → at ≡ Some i → i < length ns
+  -- below a child of a fork there are fewer nodes
+  pub fewer : (ns : List (Node V)) (bits i : ℕ) (t : Tree V) (n : Node V) (s : Side) → Some i ≡ link t → Laid ns t → Levels bits t → slice_get ns i ≡ Some n → size (tree_below (suc bits) ns (child s n)) < size (tree_below (suc bits) ns (Some i))
+  fewer ns bits i t n s e is hi at =
+      let a = forked ns i t e is in
+      let node : slice_get ns i ≡ Some (node_of a.k a.v (link a.l) (link a.r)) = a.node in
+      let same : node_of a.k a.v (link a.l) (link a.r) ≡ n = cc in
+      let b = levels_below bits i a.k a.v a.l a.r (subst (Levels bits) a.is hi) in
+      let whole = ap size (ap (tree_below (suc bits) ns) e ∙ tree_high ns bits t hi is ∙ a.is) in
+      let left = ap size (ap (λ (x : Node V). tree_below (suc bits) ns x.left) (sym same) ∙ tree_high ns bits a.l b.0 a.left_is) in
+      let right = ap size (ap (λ (x : Node V). tree_below (suc bits) ns x.right) (sym same) ∙ tree_high ns bits a.r b.1 a.right_is) in
+      elim s as (λ (x : Side). size (tree_below (suc bits) ns (child x n)) < size (tree_below (suc bits) ns (Some i))) [ Left ↦ omega (arith, whole, left) | Right ↦ omega (arith, whole, right) ]
+
+  pub index_ok : {ns : List (Node V)} {k bits low half i : ℕ} {at goal : Option ℕ} {under end : Option Link} → Turn ns k bits at low half under goal end → at ≡ Some i → i < length ns
   index_ok {ns} {i = i} u e =
       let a = forked ns i u.t (sym e ∙ u.at-is) u.is in nth_lt ns i _ a.node
-
-  pub offset_ok : {ns : List (Node V)} {k bits d low half i : ℕ} {at goal : Option ℕ} {under end : Option Link} → Turn ns k bits d at low half under goal end → at ≡ Some i → i ≤ length ns
-  offset_ok {ns} {i = i} u e = let lt : i < length ns = index_ok u e in omega arith
 
   found' : (q h low i : ℕ) (k : ℕ) (v : V) (l r : Tree V) → k ≡ q → place_of q h low (fork i k v l r) ≡ Some i
   found' q zero low i k v l r e = grind (arith, nat_tests)
@@ -86,7 +96,7 @@ module _ {V : Type 0} where
   found-last q zero low i k v l r d e = refl
   found-last q (suc h) low i k v l r d e = yes_eq k q _ _ e
 
-  pub found : {ns : List (Node V)} {k bits d low half i : ℕ} {goal : Option ℕ} {under end : Option Link} (n : Node V) → Turn ns k bits d (Some i) low half under goal end → slice_get ns i ≡ Some n → n.key ≡ k → (goal ≡ Some i) × (end ≡ under)
+  pub found : {ns : List (Node V)} {k bits low half i : ℕ} {goal : Option ℕ} {under end : Option Link} (n : Node V) → Turn ns k bits (Some i) low half under goal end → slice_get ns i ≡ Some n → n.key ≡ k → (goal ≡ Some i) × (end ≡ under)
   found {ns} {k} {low = low} {i = i} {under = under} n u at e =
       let a = forked ns i u.t u.at-is u.is in
       let node : slice_get ns i ≡ Some (node_of a.k a.v (link a.l) (link a.r)) = a.node in
@@ -119,8 +129,8 @@ module _ {V : Type 0} where
         right_last = λ d w. no_eq k q _ _ ne ∙ no_lt q (low + 2 ^ h) _ _ w;
       }
 
-  go_left : {ns : List (Node V)} {k bits d low half i : ℕ} {goal : Option ℕ} {under end : Option Link} (n : Node V) → Turn ns k bits d (Some i) low half under goal end → slice_get ns i ≡ Some n → (n.key ≡ k → ⊥) → k - low < half → Turn ns k bits (d + 1) n.left low (half / 2) (Some (on i Left)) goal end
-  go_left {ns} {k} {bits} {d} {low} {half} {i} {goal} {under} {end} n u at ne lt =
+  go_left : {ns : List (Node V)} {k bits low half i : ℕ} {goal : Option ℕ} {under end : Option Link} (n : Node V) → Turn ns k bits (Some i) low half under goal end → slice_get ns i ≡ Some n → (n.key ≡ k → ⊥) → k - low < half → Turn ns k bits n.left low (half / 2) (Some (on i Left)) goal end
+  go_left {ns} {k} {bits} {low} {half} {i} {goal} {under} {end} n u at ne lt =
       let a = forked ns i u.t u.at-is u.is in
       let node : slice_get ns i ≡ Some (node_of a.k a.v (link a.l) (link a.r)) = a.node in
       let same : n ≡ node_of a.k a.v (link a.l) (link a.r) = cc in
@@ -132,7 +142,7 @@ module _ {V : Type 0} where
       record {
         h = s.p;
         t = a.l;
-        depth = omega (arith, u.depth);
+        within = omega (arith, u.within);
         at-is = ap (λ (x : Node V). x.left) same;
         is = a.left_is;
         inside = s.left_in;
@@ -143,8 +153,8 @@ module _ {V : Type 0} where
         lasts = u.lasts ∙ ap (λ (x : Tree V). last_link k u.h low x under) a.is ∙ s.left_last under below;
       }
 
-  go_right : {ns : List (Node V)} {k bits d low half i : ℕ} {goal : Option ℕ} {under end : Option Link} (n : Node V) → Turn ns k bits d (Some i) low half under goal end → slice_get ns i ≡ Some n → (n.key ≡ k → ⊥) → half ≤ k - low → Turn ns k bits (d + 1) n.right (low + half) (half / 2) (Some (on i Right)) goal end
-  go_right {ns} {k} {bits} {d} {low} {half} {i} {goal} {under} {end} n u at ne ge =
+  go_right : {ns : List (Node V)} {k bits low half i : ℕ} {goal : Option ℕ} {under end : Option Link} (n : Node V) → Turn ns k bits (Some i) low half under goal end → slice_get ns i ≡ Some n → (n.key ≡ k → ⊥) → half ≤ k - low → Turn ns k bits n.right (low + half) (half / 2) (Some (on i Right)) goal end
+  go_right {ns} {k} {bits} {low} {half} {i} {goal} {under} {end} n u at ne ge =
       let a = forked ns i u.t u.at-is u.is in
       let node : slice_get ns i ≡ Some (node_of a.k a.v (link a.l) (link a.r)) = a.node in
       let same : n ≡ node_of a.k a.v (link a.l) (link a.r) = cc in
@@ -158,7 +168,7 @@ module _ {V : Type 0} where
       record {
         h = s.p;
         t = a.r;
-        depth = omega (arith, u.depth);
+        within = omega (arith, u.within);
         at-is = ap (λ (x : Node V). x.right) same;
         is = a.right_is;
         inside = subst (λ (x : ℕ). Inside s.p x a.r) lows s.right_in;
@@ -170,12 +180,16 @@ module _ {V : Type 0} where
       }
 
   -- a turn to the side of the key
-  pub go_on : {ns : List (Node V)} {k bits d low half i : ℕ} {goal : Option ℕ} {under end : Option Link} (n : Node V) (s : Side) → Turn ns k bits d (Some i) low half under goal end → slice_get ns i ≡ Some n → (n.key ≡ k → ⊥) → s ≡ cond (ltb k (low + half)) Left Right → Turn ns k bits (d + 1) (child s n) (low_on s low half) (half / 2) (Some (on i s)) goal end
+  pub go_on : {ns : List (Node V)} {k bits low half i : ℕ} {goal : Option ℕ} {under end : Option Link} (n : Node V) (s : Side) → Turn ns k bits (Some i) low half under goal end → slice_get ns i ≡ Some n → (n.key ≡ k → ⊥) → s ≡ cond (ltb k (low + half)) Left Right → Turn ns k bits (child s n) (low_on s low half) (half / 2) (Some (on i s)) goal end
   go_on {k = k} {low = low} {half = half} n Left u at ne e = let from : low ≤ k = u.from in let lt = went_left k (low + half) Left e refl in go_left n u at ne (omega arith)
   go_on {k = k} {low = low} {half = half} n Right u at ne e = let ge = went_right k (low + half) Right e refl in go_right n u at ne (omega arith)
 
-  pub begin : {ns : List (Node V)} {k bits half : ℕ} {root : Option ℕ} (t : Tree V) → root ≡ link t → Laid ns t → Inside bits 0 t → half * 2 ≡ 2 ^ bits → k < 2 ^ bits → bits ≡ suc (bits - 1) → Turn ns k bits 0 root 0 half None (place_of k bits 0 t) (last_link k bits 0 t None)
+  -- and fewer nodes are below
+  pub turn-fewer : {ns : List (Node V)} {k bits low half i : ℕ} {at goal : Option ℕ} {under end : Option Link} (n : Node V) (s : Side) → Turn ns k bits at low half under goal end → at ≡ Some i → slice_get ns i ≡ Some n → size (tree_below (suc bits) ns (child s n)) < size (tree_below (suc bits) ns at)
+  turn-fewer {ns} {bits = bits} {low} {i = i} n s u e at = rw e (fewer ns bits i u.t n s (sym e ∙ u.at-is) u.is (in_high u.h low bits u.t u.inside u.within) at)
+
+  pub begin : {ns : List (Node V)} {k bits half : ℕ} {root : Option ℕ} (t : Tree V) → root ≡ link t → Laid ns t → Inside bits 0 t → half * 2 ≡ 2 ^ bits → k < 2 ^ bits → bits ≡ suc (bits - 1) → Turn ns k bits root 0 half None (place_of k bits 0 t) (last_link k bits 0 t None)
   begin {ns} {k} {bits} {half} {root} t at is inn two lt pos =
       let p2 : 2 ^ bits ≡ 2 ^ (bits - 1) + 2 ^ (bits - 1) = ap (λ (x : ℕ). 2 ^ x) pos ∙ two-pow-succ (bits - 1) in
       let hp : half ≡ 2 ^ (bits - 1) = omega arith in
-      record { h = bits; t = t; depth = omega arith; at-is = at; is = is; inside = inn; from = omega arith; to = omega arith; half_is = hp ∙ sym (ap half_of pos); ends = refl; lasts = refl }
+      record { h = bits; t = t; within = omega arith; at-is = at; is = is; inside = inn; from = omega arith; to = omega arith; half_is = hp ∙ sym (ap half_of pos); ends = refl; lasts = refl }

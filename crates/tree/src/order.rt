@@ -64,10 +64,7 @@ impl<K: Key, V: Copy> SearchTree<K, V> {
     {
         let mut at = at;
         let mut best = best;
-        for level in 0..self.head.width.bits + 1 {
-            let Some(i) = at else {
-                return best;
-            };
+        while let Some(i) = at {
             let node = &self.nodes[i as usize];
             best = lesser_of(best, node.key);
             at = node.left.or(node.right);
@@ -94,10 +91,7 @@ impl<K: Key, V: Copy> SearchTree<K, V> {
             best: None,
             aside: None,
         };
-        for level in 0..self.head.width.bits {
-            let Some(i) = at else {
-                return self.least_from(seen.aside, seen.best);
-            };
+        while let Some(i) = at {
             let node = &self.nodes[i as usize];
             let side = span.side_of(key);
             seen = seen.node(key, node.key).beside(side, node.right);

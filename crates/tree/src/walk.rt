@@ -20,10 +20,7 @@ impl<K: Key, V: Copy> SearchTree<K, V> {
         let mut at = self.head.root;
         let mut under = None;
         let mut span = Span::of(self.head.width);
-        for level in 0..self.head.width.bits + 1 {
-            let Some(i) = at else {
-                return Err(under);
-            };
+        while let Some(i) = at {
             let node = &self.nodes[i as usize];
             if node.key == key {
                 return Ok(Place { at: i, under });
@@ -42,10 +39,7 @@ impl<K: Key, V: Copy> SearchTree<K, V> {
         ensures { Bottom (tree_below (suc self.now.head.width.bits) self.now.nodes.items (Some from.at)) from.under result.at result.under }
     {
         let mut tip = from;
-        for level in 0..self.head.width.bits {
-            let Some((side, at)) = self.nodes[tip.at as usize].some_child() else {
-                return tip;
-            };
+        while let Some((side, at)) = self.nodes[tip.at as usize].some_child() {
             let under = Some(Link { node: tip.at, side });
             tip = Place { at, under };
         }

@@ -1,11 +1,14 @@
--- What the loop of `bottom` keeps. Assumes nothing.
+-- What the loop of `bottom` keeps, and what falls. Assumes nothing.
 use Rattle.std.proofs.Common.{suc, Some}
-use Rattle.tree.specs.Tree.{tree_below}
+use Rattle.tree.specs.Tree.{tree_below, size}
 use Rattle.tree.proofs.Feet.{Down}
 use Rattle.tree.proofs.search_tree.SearchTree.bottom.Given as goal
 
-abbrev pub invariant-loop-level : goal.invariant-loop-level
-invariant-loop-level g l =
+abbrev pub invariant-loop-side : goal.invariant-loop-side
+invariant-loop-side g l =
     let ns = l.self.nodes.items in
     let bits = l.self.head.width.bits in
-    Down ns bits l.level l.tip.at l.tip.under (tree_below (suc bits) ns (Some l.initial.tip.at)) l.initial.tip.under
+    Down ns bits l.tip.at l.tip.under (tree_below (suc bits) ns (Some l.initial.tip.at)) l.initial.tip.under
+
+abbrev pub decreases-loop-side : goal.decreases-loop-side
+decreases-loop-side g l = size (tree_below (suc l.self.head.width.bits) l.self.nodes.items (Some l.tip.at))

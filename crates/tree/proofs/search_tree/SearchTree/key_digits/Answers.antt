@@ -1,8 +1,8 @@
 -- The answers of `key_digits`. Assumes nothing.
 use Rattle.std.proofs.Common.{add-one}
+use Rattle.tree.proofs.Depths.{way_short}
 use Rattle.tree.proofs.Finds.{seekable}
 use Rattle.tree.proofs.Sealed.{known}
-use Rattle.tree.proofs.Trees.{way_short}
 use Rattle.tree.proofs.search_tree.SearchTree.key_digits.Goals as goal
 
 pub returns : goal.returns

@@ -3,12 +3,12 @@ use Rattle.std.proofs.Common.{◌^◌, ◌<◌, sym, subst, arith}
 use Rattle.tree.specs.State.{Held, Missing, tree_of}
 use Rattle.tree.proofs.Finds.{seekable}
 use Rattle.tree.proofs.Sealed.{known}
-use Rattle.tree.proofs.Turns.{none, found, index_ok, go_on, begin}
+use Rattle.tree.proofs.Turns.{none, found, index_ok, go_on, turn-fewer, begin}
 use Rattle.tree.proofs.Trees.{read}
 use Rattle.tree.proofs.search_tree.SearchTree.seek.Goals as goal
 
-pub loop-level-init : goal.loop-level-init
-loop-level-init g c =
+pub loop-at-init : goal.loop-at-init
+loop-at-init g c =
     let s = c.args.self.now in
     let h = s.head in
     let u = known s in
@@ -18,30 +18,32 @@ loop-level-init g c =
     simp (c.of-span.ensures.low, c.of-span.ensures.half) (begin (tree_of s.nodes.items h) r.root_is r.is r.inside h.width.halved short (omega (arith, h.width.some)))
 
 pub index-node-requires : goal.index-node-requires
-index-node-requires g c = omega (arith, c.args.self.now.nodes.ok.0, index_ok c.loop-level.invariant c.in-Some.is)
+index-node-requires g c = omega (arith, c.args.self.now.nodes.ok.0, index_ok c.loop-at.invariant c.in-Some.is)
 
 pub side_of-side-requires : goal.side_of-side-requires
-side_of-side-requires g c = c.loop-level.invariant.from
+side_of-side-requires g c = c.loop-at.invariant.from
 
-pub loop-level-preserved : goal.loop-level-preserved
-loop-level-preserved g c =
-    let at = read c.args.self.now.nodes.items c.in-Some.i _ (index_ok c.loop-level.invariant c.in-Some.is) c.index-node.ensures in
-    simp (c.child-at.ensures, c.on-span.ensures.low, c.on-span.ensures.half) (go_on c.index-node.result.now c.side_of-side.result (rw c.in-Some.is at c.loop-level.invariant) at c.if-node-key.false c.side_of-side.ensures)
+pub loop-at-preserved : goal.loop-at-preserved
+loop-at-preserved g c =
+    let at = read c.args.self.now.nodes.items c.in-Some.i _ (index_ok c.loop-at.invariant c.in-Some.is) c.index-node.ensures in
+    simp (c.child-at.ensures, c.on-span.ensures.low, c.on-span.ensures.half) (go_on c.index-node.result.now c.side_of-side.result (rw c.in-Some.is at c.loop-at.invariant) at c.if-node-key.false c.side_of-side.ensures)
 
 pub returns-then-node-key : goal.returns-then-node-key
 returns-then-node-key g c =
     let s = c.args.self.now in
-    let at = read s.nodes.items c.in-Some.i _ (index_ok c.loop-level.invariant c.in-Some.is) c.index-node.ensures in
-    let f = found c.index-node.result.now (rw c.in-Some.is at c.loop-level.invariant) at c.if-node-key.true in
-    subst (λ n. Held g.K.Key.LIMIT s.nodes.items s.head n (record { at = c.in-Some.i; under = c.loop-level.under })) c.to_number-key.ensures.is
+    let at = read s.nodes.items c.in-Some.i _ (index_ok c.loop-at.invariant c.in-Some.is) c.index-node.ensures in
+    let f = found c.index-node.result.now (rw c.in-Some.is at c.loop-at.invariant) at c.if-node-key.true in
+    subst (λ n. Held g.K.Key.LIMIT s.nodes.items s.head n (record { at = c.in-Some.i; under = c.loop-at.under })) c.to_number-key.ensures.is
     (record { below = c.to_number-key.ensures.below; at-is = f.0; under_is = sym f.1 })
 
-pub returns-in_default : goal.returns-in_default
-returns-in_default g c =
-    let s = c.args.self.now in
-    let f = none (rw c.in_default.is at c.loop-level.invariant) in
-    subst (λ n. Missing g.K.Key.LIMIT s.nodes.items s.head n c.loop-level.under) c.to_number-key.ensures.is
-    (record { below = c.to_number-key.ensures.below; at-is = f.0; under_is = sym f.1 })
+pub loop-at-smaller : goal.loop-at-smaller
+loop-at-smaller g c =
+    let at = read c.args.self.now.nodes.items c.in-Some.i _ (index_ok c.loop-at.invariant c.in-Some.is) c.index-node.ensures in
+    simp c.child-at.ensures (turn-fewer c.index-node.result.now c.side_of-side.result c.loop-at.invariant c.in-Some.is at)
 
 pub returns : goal.returns
-returns g c = absurd (omega (arith, c.loop-level.invariant.depth))
+returns g c =
+    let s = c.args.self.now in
+    let f = none (rw c.in_default.is at c.loop-at.invariant) in
+    subst (λ n. Missing g.K.Key.LIMIT s.nodes.items s.head n c.loop-at.under) c.to_number-key.ensures.is
+    (record { below = c.to_number-key.ensures.below; at-is = f.0; under_is = sym f.1 })
