@@ -22,7 +22,7 @@ module _ {V : Type 0} where
   From lo g (Some k) = (lo ≤ k) × (g k ≡ None → ⊥) × ((x : ℕ) → lo ≤ x → x < k → g x ≡ None)
 
   held : (o : Option V) (v : V) → o ≡ Some v → o ≡ None → ⊥
-  held o v a b = let z : ◌≡◌ {A = ℕ} 0 1 = cc in omega arith
+  held o v a b = cc
 
   or-none : (a b : Option V) → option_or a b ≡ None → a ≡ None
   or-none None b e = refl

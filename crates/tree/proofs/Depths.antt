@@ -55,14 +55,14 @@ module _ {V : Type 0} where
   -- no way down visits more nodes than the interval can be halved, plus one
   pub way_short : (ns : List (Node V)) (h low : ℕ) (t : Tree V) (i : Option ℕ) → i ≡ link t → Inside h low t → Laid ns t → (js : List ℕ) → Way ns i js → length js ≤ suc h
   way_short ns h low t i e inn is [] w = omega arith
-  way_short ns h low leaf i e inn is (j ∷ js) w = let f : i ≡ Some j = w.0 in let z : ◌≡◌ {A = ℕ} 0 1 = cc in absurd (omega arith)
+  way_short ns h low leaf i e inn is (j ∷ js) w = let f : i ≡ Some j = w.0 in cc
   way_short ns zero low (fork p k v l r) i e inn is (j ∷ js) w =
       let s = below ns p k v l r i j w.1.0 e w.0 is.0 w.1.1 in
       ⊎_elim (λ u. ended js _ (ap (λ (x : Node V). x.left) s ∙ ap link inn.1) u) (λ u. ended js _ (ap (λ (x : Node V). x.right) s ∙ ap link inn.2) u) w.1.2
     where
       ended : (js : List ℕ) (o : Option ℕ) → o ≡ None → Way ns o js → length (j ∷ js) ≤ 1
       ended [] o e u = omega arith
-      ended (x ∷ js) o e u = let f : o ≡ Some x = u.0 in let z : ◌≡◌ {A = ℕ} 0 1 = cc in absurd (omega arith)
+      ended (x ∷ js) o e u = let f : o ≡ Some x = u.0 in cc
   way_short ns (suc h) low (fork p k v l r) i e inn is (j ∷ js) w =
       let s = below ns p k v l r i j w.1.0 e w.0 is.0 w.1.1 in
       ⊎_elim

@@ -175,7 +175,7 @@ module _ {V : Type 0} where
   unfolding at with_entry without
   length-ins k v [] n = refl
   length-ins k v (e ∷ es) n = ⊎_elim
-      (λ q. let c : Some e.1 ≡ None = sym (get_hit k e es q) ∙ n in let z : ◌≡◌ {A = ℕ} 0 1 = cc in absurd (omega arith))
+      (λ q. let c : Some e.1 ≡ None = sym (get_hit k e es q) ∙ n in cc)
       (λ q. ⊎_elim
       (λ w. ap length (ins_before k v e es q w))
       (λ w. ap length (ins-after k v e es q w) ∙ ap suc (length-ins k v es (sym (get_miss k e es q) ∙ n)))
@@ -184,7 +184,7 @@ module _ {V : Type 0} where
 
   pub length-del : (k : ℕ) (v : V) (es : List (ℕ × V)) → get k es ≡ Some v → suc (length (del k es)) ≡ length es
   unfolding at with_entry without
-  length-del k v [] e = let z : ◌≡◌ {A = ℕ} 0 1 = cc in absurd (omega arith)
+  length-del k v [] e = cc
   length-del k v (e ∷ es) g = ⊎_elim
       (λ q. ap (λ (x : List (ℕ × V)). suc (length x)) (del_hit k e es q))
       (λ q. ap (λ (x : List (ℕ × V)). suc (length x)) (del_miss k e es q) ∙ ap suc (length-del k v es (sym (get_miss k e es q) ∙ g)))
@@ -195,17 +195,17 @@ module _ {V : Type 0} where
   unfolding at with_entry without
   del-none k [] e = refl
   del-none k (e ∷ es) g = ⊎_elim
-      (λ q. let c : Some e.1 ≡ None = sym (get_hit k e es q) ∙ g in let z : ◌≡◌ {A = ℕ} 0 1 = cc in absurd (omega arith))
+      (λ q. let c : Some e.1 ≡ None = sym (get_hit k e es q) ∙ g in cc)
       (λ q. del_miss k e es q ∙ ap (λ (x : List (ℕ × V)). e ∷ x) (del-none k es (sym (get_miss k e es q) ∙ g)))
       (cases_eq k e.0)
 
   pub length_had : (k : ℕ) (v w : V) (es : List (ℕ × V)) → Sorted es → get k es ≡ Some w → length (ins k v es) ≡ length es
   unfolding at with_entry without
-  length_had k v w [] s g = let z : ◌≡◌ {A = ℕ} 0 1 = cc in absurd (omega arith)
+  length_had k v w [] s g = cc
   length_had k v w (e ∷ es) s g = ⊎_elim
       (λ q. ap length (ins_hit k v e es q))
       (λ q. ⊎_elim
-      (λ x. let n : get k (e ∷ es) ≡ None = get-over k (e ∷ es) (x, over_less k e.0 es (omega arith) s.0) in let z : ◌≡◌ {A = ℕ} 0 1 = cc in absurd (omega arith))
+      (λ x. let n : get k (e ∷ es) ≡ None = get-over k (e ∷ es) (x, over_less k e.0 es (omega arith) s.0) in cc)
       (λ x. ap length (ins-after k v e es q x) ∙ ap suc (length_had k v w es s.1 (sym (get_miss k e es q) ∙ g)))
       (cases_lt k e.0))
       (cases_eq k e.0)

@@ -57,7 +57,7 @@ module _ {V : Type 0} where
   or-cond false w x y = refl
 
   none-some : {X : Type 0} (x : V) → None ≡ Some x → X
-  none-some x e = let z : ◌≡◌ {A = ℕ} 0 1 = cc in absurd (omega arith)
+  none-some x e = cc
 
   -- what look-ups find without the fork
   pub foot_val : (x h low : ℕ) (t : Tree V) (d : Option Link) (m km : ℕ) (vm : V) (c : Tree V) (u : Option Link) → Foot t d m km vm c u → Inside h low t → Distinct t
@@ -201,7 +201,7 @@ module _ {V : Type 0} where
 
   leafed : (t : Tree V) → None ≡ link t → t ≡ leaf
   leafed leaf e = refl
-  leafed (fork j k v l r) e = let g : None ≡ Some j = e in let z : ◌≡◌ {A = ℕ} 0 1 = cc in absurd (omega arith)
+  leafed (fork j k v l r) e = let g : None ≡ Some j = e in cc
 
   pub down_end : {ns : List (Node V)} {bits at : ℕ} {under start : Option Link} {s : Tree V} (n : Node V) → Down ns bits at under s start → slice_get ns at ≡ Some n → n.left ≡ None → n.right ≡ None → Bottom s start at under
   down_end {ns} {bits} {at} {under} {start} {s} n w e nl nr =

@@ -71,9 +71,9 @@ module _ {K V : Type 0} {key : Ghosts K} (s : SearchTree K V key) (q : ℕ) wher
 
   -- the same of the walk's answer
   pub sought_none : (r : Result Place (Option Link)) → Sought key.LIMIT s.nodes.items s.head q r → result_ok r ≡ None → at es q ≡ None
-  sought_none (Ok p) m e = let z : ◌≡◌ {A = ℕ} 0 1 = cc in absurd (omega arith)
+  sought_none (Ok p) m e = cc
   sought_none (Err under) m e = missing_none under m
 
   pub sought_some : (r : Result Place (Option Link)) (p : Place) → Sought key.LIMIT s.nodes.items s.head q r → result_ok r ≡ Some p → Held key.LIMIT s.nodes.items s.head q p
   sought_some (Ok p') p m e = subst (Held key.LIMIT s.nodes.items s.head q) (same_Some p' p e) m
-  sought_some (Err under) p m e = let z : ◌≡◌ {A = ℕ} 0 1 = cc in absurd (omega arith)
+  sought_some (Err under) p m e = cc

@@ -99,7 +99,7 @@ module _ {V : Type 0} where
 
   no_link : (t : Tree V) → None ≡ link t → least t ≡ None
   no_link leaf e = refl
-  no_link (fork j k v l r) e = let g : None ≡ Some j = e in let z : ◌≡◌ {A = ℕ} 0 1 = cc in absurd (omega arith)
+  no_link (fork j k v l r) e = let g : None ≡ Some j = e in cc
 
   pub sink_none : {ns : List (Node V)} {bits : ℕ} {at best goal : Option ℕ} → Sink ns bits at best goal → at ≡ None → best ≡ goal
   sink_none {best = best} w e = sym (w.ends ∙ ap (lesser best) (no_link w.t (sym e ∙ w.at-is)) ∙ lesser-none best)
@@ -414,7 +414,7 @@ module _ {V : Type 0} where
 
   bare : (q h low : ℕ) (t : Tree V) → None ≡ link t → next q h low t ≡ None
   bare q h low leaf e = refl
-  bare q h low (fork j k v l r) e = let g : None ≡ Some j = e in let z : ◌≡◌ {A = ℕ} 0 1 = cc in absurd (omega arith)
+  bare q h low (fork j k v l r) e = let g : None ≡ Some j = e in cc
 
   over : {ns : List (Node V)} {q bits low half : ℕ} {at best alt goal : Option ℕ} (u : Hunt ns q bits at low half best alt goal) → next q u.h low u.t ≡ None → lesser best (least (tree_below (suc bits) ns alt)) ≡ goal
   over {ns} {bits = bits} {best = best} {alt = alt} u n =

@@ -27,7 +27,7 @@ module _ {V : Type 0} where
 
   pub holds-some : (k : ℕ) (v : V) (es : List (ℕ × V)) → at es k ≡ Some v → holds es k ≡ true
   unfolding holds at
-  holds-some k v [] g = let z : ◌≡◌ {A = ℕ} 0 1 = cc in absurd (omega arith)
+  holds-some k v [] g = cc
   holds-some k v (e ∷ es) g = let ih = holds-some k v es in grind (arith, nat_tests)
 
   pub holds-none : (k : ℕ) (es : List (ℕ × V)) → at es k ≡ None → holds es k ≡ false
@@ -37,5 +37,5 @@ module _ {V : Type 0} where
 
   pub first_below : (m n k : ℕ) (es : List (ℕ × V)) → all_below m (keys es) ≡ true → first_from es n ≡ Some k → k < m
   unfolding all_below first_from
-  first_below m n k [] h f = let z : ◌≡◌ {A = ℕ} 0 1 = cc in absurd (omega arith)
+  first_below m n k [] h f = cc
   first_below m n k (e ∷ es) h f = let ih = first_below m n k es in grind (arith, nat_tests)

@@ -60,7 +60,7 @@ module _ {V : Type 0} where
   link_ok ns h u q new (Some d) out e =
       let tr = the_tree ns h u in
       ⊎_elim
-      (λ x. let z : ◌≡◌ {A = ℕ} 0 1 = cc in absurd (omega arith))
+      (λ x. cc)
       (λ c. (occurs-within ns d.node u.t u.is c, λ x. (let y : occurs d.node u.t ≡ 0 = ap (λ (z : ℕ). occurs z u.t) x ∙ ap (occurs new) (sym tr) ∙ out in omega arith)))
       (last_in q h.width.bits 0 d.node d.side None u.t (sym (e ∙ ap (λ (x : Tree V). last_link q h.width.bits 0 x None) tr)))
 
@@ -149,6 +149,6 @@ module _ {V : Type 0} where
       off : (x : ℕ) (under : Option Link) → under ≡ last_link q h.width.bits 0 u.t None → 1 ≤ listed x kp.f → occurs x u.t + one x sp.at + listed x kp.f ≤ 1 → Elsewhere x under
       off x None e o ap' = tt
       off x (Some d) e o ap' = λ xp. ⊎_elim
-          (λ y. let z : ◌≡◌ {A = ℕ} 0 1 = cc in omega arith)
+          (λ y. cc)
           (λ c. let c' : 1 ≤ occurs x u.t = subst (λ (z : ℕ). 1 ≤ occurs z u.t) (sym xp) c in omega arith)
           (last_in q h.width.bits 0 d.node d.side None u.t (sym e))

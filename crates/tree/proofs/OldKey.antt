@@ -42,7 +42,7 @@ module _ {V : Type 0} where
         new = (re.moved (node_of q T.v (link T.l) (link T.r)) isS.0, same ns ms T.l (λ x k. re.kept x (side-off x (omega arith))) isS.1, same ns ms T.r (λ x k. re.kept x (side-off x (omega arith))) isS.2);
         kept = λ x k z f. re.kept x (not-i x (ap (occurs x) (sym en) ∙ z));
         linked = λ p side n e k at. elim (lead ns q hb 0 t None a1 u.is) [
-          | begins b1 b2 ↦ (let y : None ≡ Some (on p side) = sym b1 ∙ e in let z : ◌≡◌ {A = ℕ} 0 1 = cc in absurd (omega arith))
+          | begins b1 b2 ↦ (let y : None ≡ Some (on p side) = sym b1 ∙ e in cc)
           | leads p' side' b1 k' z f ↦ (
               let pp : p' ≡ p = off_other p' p side' side (last_link q hb 0 t None) b1 e in
               let ss : side' ≡ side = ap second (sym b1 ∙ e) in

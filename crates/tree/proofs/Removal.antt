@@ -40,11 +40,11 @@ module _ {V : Type 0} where
     pub once : Distinct s
 
   pub topped : (ns : List (Node V)) (q h low i : ℕ) (t : Tree V) → Inside h low t → Laid ns t → Distinct t → place_of q h low t ≡ Some i → Top ns q h i (end q h low t)
-  topped ns q h low i leaf inn is o e = let z : ◌≡◌ {A = ℕ} 0 1 = cc in absurd (omega arith)
+  topped ns q h low i leaf inn is o e = cc
   topped ns q zero low i (fork j k v l r) inn is o e = ⊎_elim
       (λ kq. let f : Some j ≡ Some i = sym (yes_eq k q _ _ kq) ∙ e in let ji : j ≡ i = cc in
       record { v = v; l = l; r = r; top = ap (λ (x : ℕ). fork x k v l r) ji ∙ ap (λ (x : ℕ). fork i x v l r) kq; h' = zero; low' = low; less = omega arith; inside = inn; is = is; once = o })
-      (λ ne. let f : None ≡ Some i = sym (no_eq k q _ _ ne) ∙ e in let z : ◌≡◌ {A = ℕ} 0 1 = cc in absurd (omega arith))
+      (λ ne. let f : None ≡ Some i = sym (no_eq k q _ _ ne) ∙ e in cc)
       (cases_eq k q)
   topped ns q (suc h) low i (fork j k v l r) inn is o e = elim (way leaf q h low j k v l r) [
     | here kq en pu la lo ↦ (let f : Some j ≡ Some i = sym lo ∙ e in let ji : j ≡ i = cc in
@@ -122,7 +122,7 @@ module _ {V : Type 0} where
         ]));
         linked = λ p side n e k at. (
             let ld : (occurs p S ≡ 0) × (with_link side (link S) n ≡ n) = elim (lead ns q hb 0 t None a1 is) [
-              | begins a b ↦ (let y : None ≡ Some (on p side) = sym a ∙ e in let z : ◌≡◌ {A = ℕ} 0 1 = cc in absurd (omega arith))
+              | begins a b ↦ (let y : None ≡ Some (on p side) = sym a ∙ e in cc)
               | leads p' side' a k' z f ↦ (
                   let pp : p' ≡ p = off_other p' p side' side (last_link q hb 0 t None) a e in
                   let ss : side' ≡ side = ap second (sym a ∙ e) in (
@@ -182,7 +182,7 @@ module _ {V : Type 0} where
   found_some ns h u q i e = omega (arith, u.count_is, ap size (the_tree ns h u), go h.width.bits 0 (tree_of ns h) e)
     where
       go : (b low : ℕ) (t : Tree V) → place_of q b low t ≡ Some i → 1 ≤ size t
-      go b low leaf e = let z : ◌≡◌ {A = ℕ} 0 1 = cc in absurd (omega arith)
+      go b low leaf e = cc
       go b low (fork j k v l r) e = omega arith
 
   pub record Ready (ns : List (Node V)) (bits i : ℕ) (s : Tree V) : Type 0 where
@@ -254,7 +254,7 @@ module _ {V : Type 0} where
               let xi : x ≡ i → ⊥ = λ e. (let g : occurs x t ≡ occurs i t = ap (λ (y : ℕ). occurs y t) e in let o2 : one i i ≡ 1 = one_same i i refl in omega (arith, inS' i)) in
               rl.kept x xm ∙ re.kept x (off_of x um (λ p side e xp. elim (hold S sp m km vm c um ft) [
                 | all ca ua ↦ elim (lead ns q hb 0 t None a1 u.is) [
-                  | begins b1 b2 ↦ (let y : None ≡ Some (on p side) = sym b1 ∙ sym ls' ∙ sym ua ∙ e in let z : ◌≡◌ {A = ℕ} 0 1 = cc in absurd (omega arith))
+                  | begins b1 b2 ↦ (let y : None ≡ Some (on p side) = sym b1 ∙ sym ls' ∙ sym ua ∙ e in cc)
                   | leads p' side' b1 k' z f ↦ (let g : occurs x t ≡ occurs p' t = ap (λ (y : ℕ). occurs y t) (xp ∙ off_other p p' side side' um e (ua ∙ ls' ∙ b1)) in omega arith)
                 ]
                 | part b1 p' side' e' k' ↦ (let g : occurs x t ≡ occurs p' t = ap (λ (y : ℕ). occurs y t) (xp ∙ off_other p p' side side' um e e') in omega (arith, inS' p'))

@@ -15,7 +15,7 @@ use Rattle.tree.proofs.NewKey.{the_tree}
 module _ {V : Type 0} where
   out_leaf : (t : Tree V) → ∥ t ≡ leaf ∥₁ → t ≡ leaf
   out_leaf leaf h = refl
-  out_leaf (fork j k v l r) h = absurd (∥∥₁_elim h ⊥_prop (λ e. let g : Some j ≡ None = ap link e in let z : ◌≡◌ {A = ℕ} 0 1 = cc in omega arith))
+  out_leaf (fork j k v l r) h = absurd (∥∥₁_elim h ⊥_prop (λ e. let g : Some j ≡ None = ap link e in cc))
 
   out_is : (f : ℕ) (ns : List (Node V)) (i : Option ℕ) → ∥ Laid ns (tree_below f ns i) ∥₁ → Laid ns (tree_below f ns i)
   out_is zero ns i h = tt
@@ -55,7 +55,7 @@ module _ {V : Type 0} where
   chain-is ns i (j ∷ f) c = ap (frees (suc (length f)) ns) c.0 ∙ ap (λ (x : List ℕ). j ∷ x) (go (chain-is ns c.1.0.left f c.1.2) (slice_get ns j) refl)
     where
       go : frees (length f) ns c.1.0.left ≡ f → (o : Option (Node V)) → slice_get ns j ≡ o → elim o [ None ↦ [] | Some n ↦ frees (length f) ns n.left ] ≡ f
-      go ih None e = (let a : slice_get ns j ≡ Some c.1.0 = c.1.1 in let z : ◌≡◌ {A = ℕ} 0 1 = cc in absurd (omega arith))
+      go ih None e = (let a : slice_get ns j ≡ Some c.1.0 = c.1.1 in cc)
       go ih (Some n) e = (let a : slice_get ns j ≡ Some c.1.0 = c.1.1 in let s : n ≡ c.1.0 = cc in ap (λ (x : Node V). frees (length f) ns x.left) s ∙ ih)
 
   out_chain : (f : ℕ) (ns : List (Node V)) (i : Option ℕ) → ∥ Chain ns i (frees f ns i) ∥₁ → Chain ns i (frees f ns i)
@@ -67,7 +67,7 @@ module _ {V : Type 0} where
       below o = elim o [ None ↦ [] | Some n ↦ frees f ns n.left ]
 
       go : ((i : Option ℕ) → ∥ Chain ns i (frees f ns i) ∥₁ → Chain ns i (frees f ns i)) → (o : Option (Node V)) → slice_get ns j ≡ o → ∥ ((n : Node V) × (slice_get ns j ≡ Some n) × Chain ns n.left (below o)) ∥₁ → (n : Node V) × (slice_get ns j ≡ Some n) × Chain ns n.left (below o)
-      go ih None e h = absurd (∥∥₁_elim h ⊥_prop (λ w. let a : slice_get ns j ≡ Some w.0 = w.1 in let z : ◌≡◌ {A = ℕ} 0 1 = cc in omega arith))
+      go ih None e h = absurd (∥∥₁_elim h ⊥_prop (λ w. let a : slice_get ns j ≡ Some w.0 = w.1 in cc))
       go ih (Some n) e h = (n, e, ih n.left (∥∥₁_map h (λ w. (let a : slice_get ns j ≡ Some w.0 = w.1 in let s : w.0 ≡ n = cc in subst (λ (x : Node V). Chain ns x.left (frees f ns n.left)) s w.2))))
 
   -- the free nodes, from the head

@@ -19,14 +19,14 @@ module _ {V : Type 0} where
     pub chain : Chain ns node.left rest
 
   pub popped : (ns : List (Node V)) (i : Option ℕ) (new : ℕ) (f : List ℕ) → Chain ns i f → i ≡ Some new → Popped ns new f
-  popped ns i new [] c e = let d : i ≡ None = c in let z : ◌≡◌ {A = ℕ} 0 1 = cc in absurd (omega arith)
+  popped ns i new [] c e = let d : i ≡ None = c in cc
   popped ns i new (j ∷ f) c e =
       let d : i ≡ Some j = c.0 in let jn : j ≡ new = cc in
       record { rest = f; was = ap (λ (x : ℕ). x ∷ f) jn; node = c.1.0; at = ap (slice_get ns) (sym jn) ∙ c.1.1; chain = c.1.2 }
 
   none-freed : (ns : List (Node V)) (i : Option ℕ) (f : List ℕ) → Chain ns i f → i ≡ None → f ≡ []
   none-freed ns i [] c e = refl
-  none-freed ns i (j ∷ f) c e = let d : i ≡ Some j = c.0 in let z : ◌≡◌ {A = ℕ} 0 1 = cc in absurd (omega arith)
+  none-freed ns i (j ∷ f) c e = let d : i ≡ Some j = c.0 in cc
 
   pub freed-within : (ns : List (Node V)) (h : Head) (i : ℕ) → WellFormed ns h → h.free ≡ Some i → i < length ns
   freed-within ns h i u e = nth_lt ns i _ (popped ns h.free i u.f u.chain e).at

@@ -69,8 +69,8 @@ module _ {V : Type 0} where
 
   -- what a look-up that fails says at a fork
   pub miss_ne : (q h low j k : ℕ) (v : V) (l r : Tree V) → place_of q h low (fork j k v l r) ≡ None → k ≡ q → ⊥
-  miss_ne q zero low j k v l r n e = let c : Some j ≡ None = sym (yes_eq k q (Some j) None e) ∙ n in let z : ◌≡◌ {A = ℕ} 0 1 = cc in omega arith
-  miss_ne q (suc h) low j k v l r n e = let c : Some j ≡ None = sym (yes_eq k q (Some j) _ e) ∙ n in let z : ◌≡◌ {A = ℕ} 0 1 = cc in omega arith
+  miss_ne q zero low j k v l r n e = let c : Some j ≡ None = sym (yes_eq k q (Some j) None e) ∙ n in cc
+  miss_ne q (suc h) low j k v l r n e = let c : Some j ≡ None = sym (yes_eq k q (Some j) _ e) ∙ n in cc
 
   miss_left : (q h low j k : ℕ) (v : V) (l r : Tree V) → place_of q (suc h) low (fork j k v l r) ≡ None → q < low + 2 ^ h → place_of q h low l ≡ None
   miss_left q h low j k v l r n w = sym (no_eq k q (Some j) _ (miss_ne q (suc h) low j k v l r n) ∙ yes_lt q (low + 2 ^ h) _ _ w) ∙ n
@@ -92,7 +92,7 @@ module _ {V : Type 0} where
   read ns i n lt e = slice_get_read ns (length ns) i n refl lt e
 
   pub nth_lt : (ns : List (Node V)) (i : ℕ) (n : Node V) → slice_get ns i ≡ Some n → i < length ns
-  nth_lt ns i n e = ⊎_elim (λ h. h) (λ h. let f : slice_get ns i ≡ None = slice_get_past ns i h in let z : ◌≡◌ {A = ℕ} 0 1 = cc in absurd (omega arith)) (cases_lt i (length ns))
+  nth_lt ns i n e = ⊎_elim (λ h. h) (λ h. let f : slice_get ns i ≡ None = slice_get_past ns i h in cc) (cases_lt i (length ns))
 
   pub occurs-within : (ns : List (Node V)) (p : ℕ) (t : Tree V) → Laid ns t → 1 ≤ occurs p t → p < length ns
   occurs-within ns p leaf is c = absurd (omega arith)

@@ -24,10 +24,10 @@ half_next (suc h) = omega (arith, two-pow-succ h)
 
 -- which side was taken
 pub went_left : (q m : ℕ) (s : Side) → s ≡ cond (ltb q m) Left Right → s ≡ Left → q < m
-went_left q m s e f = ⊎_elim (λ w. w) (λ w. let g : Right ≡ Left = sym (no_lt q m Left Right w) ∙ sym e ∙ f in let z : ◌≡◌ {A = ℕ} 0 1 = cc in absurd (omega arith)) (cases_lt q m)
+went_left q m s e f = ⊎_elim (λ w. w) (λ w. let g : Right ≡ Left = sym (no_lt q m Left Right w) ∙ sym e ∙ f in cc) (cases_lt q m)
 
 pub went_right : (q m : ℕ) (s : Side) → s ≡ cond (ltb q m) Left Right → s ≡ Right → m ≤ q
-went_right q m s e f = ⊎_elim (λ w. let g : Left ≡ Right = sym (yes_lt q m Left Right w) ∙ sym e ∙ f in let z : ◌≡◌ {A = ℕ} 0 1 = cc in absurd (omega arith)) (λ w. w) (cases_lt q m)
+went_right q m s e f = ⊎_elim (λ w. let g : Left ≡ Right = sym (yes_lt q m Left Right w) ∙ sym e ∙ f in cc) (λ w. w) (cases_lt q m)
 
 module _ {V : Type 0} where
   -- where the walk has come to: a subtree at which the answer `goal k h low t` is still to be found
@@ -67,7 +67,7 @@ module _ {V : Type 0} where
     pub right_is : Laid ns r
 
   pub forked : (ns : List (Node V)) (i : ℕ) (t : Tree V) → Some i ≡ link t → Laid ns t → Fork ns i t
-  forked ns i leaf at is = let f : Some i ≡ None = at in let z : ◌≡◌ {A = ℕ} 0 1 = cc in absurd (omega arith)
+  forked ns i leaf at is = let f : Some i ≡ None = at in cc
   forked ns i (fork j k v l r) at is =
       let f : Some i ≡ Some j = at in let ij : i ≡ j = cc in
       record { k = k; v = v; l = l; r = r; is = cc; node = rw ij is.0; left_is = is.1; right_is = is.2 }
