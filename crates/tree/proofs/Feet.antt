@@ -2,6 +2,7 @@
 use Rattle.std.proofs.Common.{◌≡◌, ℕ, zero, suc, ◌+◌, ◌^◌, ◌<◌, ◌≤◌, Bool, true, false, cond, eqb, List, length, Some, None, Option, sym, refl, ap, ◌∙◌, subst, inl, inr, ⊎_elim, arith}
 use native.Mathlib.Nat.{two-pow-succ}
 use Rattle.std.proofs.lemmas.Bool.{cases_eq}
+use Rattle.std.proofs.lemmas.Option.{none-some}
 use Rattle.std.specs.List.{slice_get}
 use Rattle.std.specs.Option.{option_or}
 use Rattle.tree.specs.declared.links.Link.{Link}
@@ -55,9 +56,6 @@ module _ {V : Type 0} where
   or-cond : (b : Bool) (w : V) (x y : Option V) → option_or (cond b (Some w) x) y ≡ cond b (Some w) (option_or x y)
   or-cond true w x y = refl
   or-cond false w x y = refl
-
-  none-some : {X : Type 0} (x : V) → None ≡ Some x → X
-  none-some x e = cc
 
   -- what look-ups find without the fork
   pub foot_val : (x h low : ℕ) (t : Tree V) (d : Option Link) (m km : ℕ) (vm : V) (c : Tree V) (u : Option Link) → Foot t d m km vm c u → Inside h low t → Distinct t
@@ -280,7 +278,7 @@ module _ {V : Type 0} where
   -- a fork of a key, and what is below once it holds another key
   or_both : (x y : Option V) → option_or x y ≡ None → (x ≡ None) × (y ≡ None)
   or_both None y e = (refl, e)
-  or_both (Some x) y e = none-some x (sym e)
+  or_both (Some x) y e = absurd (none-some x (sym e))
 
   pub record Crowned (q km : ℕ) (vm : V) (s c : Tree V) : Type 0 where
     pub gone : record_of q (crown km vm c) ≡ None

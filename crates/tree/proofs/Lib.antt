@@ -15,4 +15,3 @@ pub mod Sealed
 pub mod Spares
 pub mod Trees
 pub mod Turns
-pub mod Writes

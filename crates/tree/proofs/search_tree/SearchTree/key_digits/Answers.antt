@@ -5,8 +5,8 @@ use Rattle.tree.proofs.Finds.{seekable}
 use Rattle.tree.proofs.Sealed.{known}
 use Rattle.tree.proofs.search_tree.SearchTree.key_digits.Goals as goal
 
-pub returns : goal.returns
-returns g c =
+pub returns-clause-short : goal.returns-clause-short
+returns-clause-short g c =
     let s = c.args.self.now in
     let w = seekable s.nodes.items s.head (known s).wf in
-    record { digits = (known s).digits; short = λ way down. rw add-one (way_short s.nodes.items s.head.width.bits 0 _ s.head.root w.root_is w.inside w.is way down) }
+    λ way down. rw add-one (way_short s.nodes.items s.head.width.bits 0 _ s.head.root w.root_is w.inside w.is way down)

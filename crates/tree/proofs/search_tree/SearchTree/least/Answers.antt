@@ -5,11 +5,8 @@ use Rattle.tree.proofs.Hunts.{first-least}
 use Rattle.tree.proofs.Sealed.{known}
 use Rattle.tree.proofs.search_tree.SearchTree.least.Goals as goal
 
-pub least_from-requires : goal.least_from-requires
-least_from-requires g c =
-    let s = c.args.self.now in
-    let r = seekable s.nodes.items s.head (known s).wf in
-    record { link = r.root_is; tree = r.is }
+pub least_from-requires-clause-tree : goal.least_from-requires-clause-tree
+least_from-requires-clause-tree g c = let s = c.args.self.now in (seekable s.nodes.items s.head (known s).wf).is
 
 pub returns : goal.returns
 returns g c =

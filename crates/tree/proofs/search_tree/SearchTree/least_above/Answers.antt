@@ -18,14 +18,11 @@ loop-at-init g c =
     let short : q < 2 ^ h.width.bits = omega (arith, u.digits.suffice, c.to_number-key.ensures.below) in
     simp (c.of-span.ensures.low, c.of-span.ensures.half) (hunt_begin (tree_of s.nodes.items h) r.root_is r.is r.inside h.width.halved short h.width.some)
 
-pub least_from-requires : goal.least_from-requires
-least_from-requires g c = let b = aside c.loop-at.invariant in record { link = b.link-is; tree = b.is }
+pub least_from-requires-clause-tree : goal.least_from-requires-clause-tree
+least_from-requires-clause-tree g c = (aside c.loop-at.invariant).is
 
 pub index-node-requires : goal.index-node-requires
 index-node-requires g c = omega (arith, c.args.self.now.nodes.ok.0, hunt_ok c.loop-at.invariant c.in-Some.is)
-
-pub side_of-side-requires : goal.side_of-side-requires
-side_of-side-requires g c = c.loop-at.invariant.from
 
 pub loop-at-preserved : goal.loop-at-preserved
 loop-at-preserved g c =

@@ -1,6 +1,6 @@
 -- The answers of `least_from`. Assumes nothing.
 use Rattle.std.proofs.Common.{arith}
-use Rattle.tree.proofs.Hunts.{sink_begin, sink_ok, sink_none, sink_down, sink-fewer}
+use Rattle.tree.proofs.Hunts.{sink_begin, sink_ok, sink_down, sink-fewer}
 use Rattle.tree.proofs.Trees.{read}
 use Rattle.tree.proofs.search_tree.SearchTree.least_from.Goals as goal
 
@@ -19,6 +19,3 @@ pub loop-at-smaller : goal.loop-at-smaller
 loop-at-smaller g c =
     let at = read c.args.self.now.nodes.items c.in-Some.i _ (sink_ok c.loop-at.invariant c.in-Some.is) c.index-node.ensures in
     simp c.or-at.ensures (sink-fewer c.index-node.result.now c.loop-at.invariant c.in-Some.is at)
-
-pub returns : goal.returns
-returns g c = sink_none c.loop-at.invariant c.in_default.is

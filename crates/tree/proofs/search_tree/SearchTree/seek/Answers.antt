@@ -1,9 +1,9 @@
 -- The answers of `seek`. Assumes nothing.
 use Rattle.std.proofs.Common.{◌^◌, ◌<◌, sym, subst, arith}
-use Rattle.tree.specs.State.{Held, Missing, tree_of}
+use Rattle.tree.specs.State.{Held, tree_of}
 use Rattle.tree.proofs.Finds.{seekable}
 use Rattle.tree.proofs.Sealed.{known}
-use Rattle.tree.proofs.Turns.{none, found, index_ok, go_on, turn-fewer, begin}
+use Rattle.tree.proofs.Turns.{found, index_ok, go_on, turn-fewer, begin}
 use Rattle.tree.proofs.Trees.{read}
 use Rattle.tree.proofs.search_tree.SearchTree.seek.Goals as goal
 
@@ -19,9 +19,6 @@ loop-at-init g c =
 
 pub index-node-requires : goal.index-node-requires
 index-node-requires g c = omega (arith, c.args.self.now.nodes.ok.0, index_ok c.loop-at.invariant c.in-Some.is)
-
-pub side_of-side-requires : goal.side_of-side-requires
-side_of-side-requires g c = c.loop-at.invariant.from
 
 pub loop-at-preserved : goal.loop-at-preserved
 loop-at-preserved g c =
@@ -40,10 +37,3 @@ pub loop-at-smaller : goal.loop-at-smaller
 loop-at-smaller g c =
     let at = read c.args.self.now.nodes.items c.in-Some.i _ (index_ok c.loop-at.invariant c.in-Some.is) c.index-node.ensures in
     simp c.child-at.ensures (turn-fewer c.index-node.result.now c.side_of-side.result c.loop-at.invariant c.in-Some.is at)
-
-pub returns : goal.returns
-returns g c =
-    let s = c.args.self.now in
-    let f = none (rw c.in_default.is at c.loop-at.invariant) in
-    subst (λ n. Missing g.K.Key.LIMIT s.nodes.items s.head n c.loop-at.under) c.to_number-key.ensures.is
-    (record { below = c.to_number-key.ensures.below; at-is = f.0; under_is = sym f.1 })
