@@ -1,3 +1,4 @@
 pub mod Same
+pub mod Taken
 pub mod Resets
 pub mod Ends

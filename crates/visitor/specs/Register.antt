@@ -1,18 +1,15 @@
--- The state of a register above a store, and what its inner calls say. Assumes nothing.
-use Rattle.std.specs.Prelude.{◌≡◌, ℕ, true, false, List, Ok, Err, Option, Result, nat_lt}
+-- What the inner calls of a register say. Assumes nothing.
+use Rattle.std.specs.Prelude.{◌≡◌, ℕ, true, false, Ok, Err, Option, Result, nat_lt}
 use Rattle.key.specs.declared.imsi.Imsi.{Imsi}
 use Rattle.key.specs.declared.refusal.Refusal.{Refusal}
 use Rattle.key.specs.declared.refusal.Refusal.TheVariants.{OutOfRange, StoreFull}
-use Rattle.dialogue.specs.Listed.{listed}
 use Rattle.restoration.specs.declared.record.Record.{Record}
+use Rattle.event.specs.declared.answer.Answer.{Answer}
+use Rattle.restoration.specs.declared.plan.Plan.{Plan}
 use Rattle.restoration.specs.State.{State}
 use Rattle.restoration.specs.declared.contacts.Auth.{Auth}
 use Rattle.restoration.specs.declared.updates.Outcome.{Outcome}
-use Rattle.restoration.specs.Steps.{keep, has_room, is_imsi, auth_of, outcome_of}
-use Rattle.visitor.specs.declared.register.Vlr.{Vlr}
-
-abbrev pub state : {S : Type 0} → (S → List (ℕ × Record)) → (S → ℕ) → Vlr S → State
-state entries room v = record { records = entries v.store; room = room v.store; dialogues = listed v.table.rows; last = v.table.last; several = v.several }
+use Rattle.restoration.specs.Steps.{planned_answer, planned_after, keep, has_room, is_imsi, auth_of, outcome_of}
 
 -- whether a record would be taken
 abbrev pub FitsSays : {T : Type 0} → State → ℕ → Option Record → Result T Refusal → Type 0
@@ -37,3 +34,10 @@ AuthSays n (Err e) = (e ≡ OutOfRange) × (nat_lt n 2 ≡ false)
 abbrev pub OutcomeSays : ℕ → Result Outcome Refusal → Type 0
 OutcomeSays n (Ok o) = (o ≡ outcome_of n) × (nat_lt n 2 ≡ true)
 OutcomeSays n (Err e) = (e ≡ OutOfRange) × (nat_lt n 2 ≡ false)
+
+-- a plan that is such was carried out, or turned down
+pub record Carried (s : State) (k : ℕ) (IsPlan : Plan → Type 0) (answer : Result Answer Refusal) (t : State) : Type 0 where
+  pub plan : Plan
+  pub is : IsPlan plan
+  pub answered : answer ≡ planned_answer s k plan
+  pub left : t ≡ planned_after s k plan

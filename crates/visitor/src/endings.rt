@@ -2,7 +2,6 @@
 ghost use Rattle.std.specs.Prelude.{◌≡◌};
 ghost use Rattle.store.specs.Model.{each, tally};
 ghost use Rattle.restoration.specs.Steps.{end_answer, end_after, reset_answer, reset_after, concerns, reset_one};
-ghost use Rattle.visitor.specs.Register.{state};
 
 use crate::events::plain;
 use crate::register::{LIMIT, Vlr};
@@ -22,13 +21,9 @@ fn unlocate<S: RecordStore<Imsi, Record, LIMIT>>(store: &mut S, id: HlrId) -> u6
     let mut last: Option<Imsi> = None;
     while let Some(imsi) = store.next(&last) {
         if imsi.begins_with(id) {
-            let Some(record) = store.find(imsi) else {
-                unreachable()
-            };
-            match store.put(imsi, record.unlocated()) {
-                Ok(()) => count += 1,
-                Err(_) => unreachable(),
-            }
+            let record = store.find(imsi).unwrap();
+            store.put(imsi, record.unlocated()).unwrap();
+            count += 1;
         }
         last = Some(imsi);
     }
@@ -38,19 +33,15 @@ fn unlocate<S: RecordStore<Imsi, Record, LIMIT>>(store: &mut S, id: HlrId) -> u6
 impl<S: RecordStore<Imsi, Record, LIMIT>> Vlr<S> {
     /// The home register ends a dialogue.
     pub fn end(&mut self, dialogue: u32, outcome: Outcome) -> Result<Answer, Refusal>
-        ensures answer { result ≡ end_answer (state S.entries S.room self.old) dialogue outcome }
-        ensures after { state S.entries S.room self.new ≡ end_after (state S.entries S.room self.old) dialogue outcome }
+        ensures answer { result ≡ end_answer self.old dialogue outcome }
+        ensures after { self.new ≡ end_after self.old dialogue outcome }
     {
-        let Some(row) = self.table.find(dialogue) else {
-            return Err(Refusal::DialogueNotOpen);
-        };
-        let Some(imsi) = Imsi::new(row.imsi) else {
-            unreachable()
-        };
+        let row = self.table.find(dialogue).ok_or(Refusal::DialogueNotOpen)?;
+        let imsi = Imsi::new(row.imsi).unwrap();
         let plan = plan_end(row, outcome, self.store.find(imsi));
         match self.table.meet(dialogue, Coming::End, &[]) {
             Met::Ended => {
-                self.keep(imsi, plan.kept)?;
+                self.keep(imsi, plan.kept).unwrap();
                 Ok(plan.answer(row.imsi, None))
             }
             _ => Err(Refusal::DialogueNotOpen),
@@ -59,8 +50,8 @@ impl<S: RecordStore<Imsi, Record, LIMIT>> Vlr<S> {
 
     /// A home register lost data: subscribers whose IMSI begins with its digits have to be located again.
     pub fn reset(&mut self, id: HlrId) -> Answer
-        ensures answer { result ≡ reset_answer (state S.entries S.room self.old) id.digits id.value }
-        ensures after { state S.entries S.room self.new ≡ reset_after (state S.entries S.room self.old) id.digits id.value }
+        ensures answer { result ≡ reset_answer self.old id.digits id.value }
+        ensures after { self.new ≡ reset_after self.old id.digits id.value }
     {
         let count = unlocate(&mut self.store, id);
         plain(Reply::Done, Ignored::NONE, Subject::Records(count))

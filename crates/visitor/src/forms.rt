@@ -6,7 +6,7 @@ ghost use Rattle.dialogue.specs.Dialogues.{send, withdraw};
 ghost use Rattle.restoration.specs.Steps.{answered, after, sent_out, spent_by, spending_answer, spending_after};
 ghost use Rattle.restoration.specs.Received.{received, received_after, received_area};
 ghost use Rattle.visitor.specs.Invokes.{direct};
-ghost use Rattle.visitor.specs.Register.{state, ImsiSays, AuthSays, OutcomeSays};
+ghost use Rattle.visitor.specs.Register.{ImsiSays, AuthSays, OutcomeSays};
 
 use crate::invoke::{Handed, Invoke};
 use crate::register::{LIMIT, Vlr};
@@ -60,8 +60,8 @@ fn spent(met: Met) -> u8
 
 impl<S: RecordStore<Imsi, Record, LIMIT>> Vlr<S> {
     fn checked_access(&mut self, imsi: u64, auth: u8, msc: u8, area: u16) -> Result<Answer, Refusal>
-        ensures answer { result ≡ answered (state S.entries S.room self.old) (access imsi auth msc area) }
-        ensures after { state S.entries S.room self.new ≡ after (state S.entries S.room self.old) (access imsi auth msc area) }
+        ensures answer { result ≡ answered self.old (access imsi auth msc area) }
+        ensures after { self.new ≡ after self.old (access imsi auth msc area) }
     {
         let imsi = imsi_of(imsi)?;
         let auth = auth_of(auth)?;
@@ -69,8 +69,8 @@ impl<S: RecordStore<Imsi, Record, LIMIT>> Vlr<S> {
     }
 
     fn checked_outgoing(&mut self, imsi: u64, auth: u8, msc: u8) -> Result<Answer, Refusal>
-        ensures answer { result ≡ answered (state S.entries S.room self.old) (outgoing imsi auth msc) }
-        ensures after { state S.entries S.room self.new ≡ after (state S.entries S.room self.old) (outgoing imsi auth msc) }
+        ensures answer { result ≡ answered self.old (outgoing imsi auth msc) }
+        ensures after { self.new ≡ after self.old (outgoing imsi auth msc) }
     {
         let imsi = imsi_of(imsi)?;
         let auth = auth_of(auth)?;
@@ -84,8 +84,8 @@ impl<S: RecordStore<Imsi, Record, LIMIT>> Vlr<S> {
         msc: u8,
         area: u16,
     ) -> Result<Answer, Refusal>
-        ensures answer { result ≡ answered (state S.entries S.room self.old) (registration imsi auth msc area) }
-        ensures after { state S.entries S.room self.new ≡ after (state S.entries S.room self.old) (registration imsi auth msc area) }
+        ensures answer { result ≡ answered self.old (registration imsi auth msc area) }
+        ensures after { self.new ≡ after self.old (registration imsi auth msc area) }
     {
         let imsi = imsi_of(imsi)?;
         let auth = auth_of(auth)?;
@@ -93,8 +93,8 @@ impl<S: RecordStore<Imsi, Record, LIMIT>> Vlr<S> {
     }
 
     fn checked_insert(&mut self, dialogue: u32, count: u8, groups: &[u8]) -> Result<Answer, Refusal>
-        ensures answer { result ≡ answered (state S.entries S.room self.old) (insert dialogue count groups.now) }
-        ensures after { state S.entries S.room self.new ≡ after (state S.entries S.room self.old) (insert dialogue count groups.now) }
+        ensures answer { result ≡ answered self.old (insert dialogue count groups.now) }
+        ensures after { self.new ≡ after self.old (insert dialogue count groups.now) }
     {
         if count < 1 || count > 6 || groups.len() != GROUP_LENGTH * count as usize {
             return Err(Refusal::OutOfRange);
@@ -103,16 +103,16 @@ impl<S: RecordStore<Imsi, Record, LIMIT>> Vlr<S> {
     }
 
     fn checked_end(&mut self, dialogue: u32, outcome: u8) -> Result<Answer, Refusal>
-        ensures answer { result ≡ answered (state S.entries S.room self.old) (end dialogue outcome) }
-        ensures after { state S.entries S.room self.new ≡ after (state S.entries S.room self.old) (end dialogue outcome) }
+        ensures answer { result ≡ answered self.old (end dialogue outcome) }
+        ensures after { self.new ≡ after self.old (end dialogue outcome) }
     {
         let outcome = outcome_of(outcome)?;
         self.end(dialogue, outcome)
     }
 
     fn checked_reset(&mut self, digits: u8, value: u64) -> Result<Answer, Refusal>
-        ensures answer { result ≡ answered (state S.entries S.room self.old) (reset digits value) }
-        ensures after { state S.entries S.room self.new ≡ after (state S.entries S.room self.old) (reset digits value) }
+        ensures answer { result ≡ answered self.old (reset digits value) }
+        ensures after { self.new ≡ after self.old (reset digits value) }
     {
         match HlrId::new(digits, value) {
             Some(id) => Ok(self.reset(id)),
@@ -124,8 +124,8 @@ impl<S: RecordStore<Imsi, Record, LIMIT>> Vlr<S> {
 impl<S: RecordStore<Imsi, Record, LIMIT>> Vlr<S> {
     /// Answers an event of which nothing is known but its type.
     fn act(&mut self, event: Event<'_>) -> Result<Answer, Refusal>
-        ensures answer { result ≡ answered (state S.entries S.room self.old) (as_event event.entry) }
-        ensures after { state S.entries S.room self.new ≡ after (state S.entries S.room self.old) (as_event event.entry) }
+        ensures answer { result ≡ answered self.old (as_event event.entry) }
+        ensures after { self.new ≡ after self.old (as_event event.entry) }
     {
         match event {
             Event::ProvideRoamingNumber(imsi) => self.provide_roaming_number(imsi_of(imsi)?),
@@ -161,8 +161,8 @@ impl<S: RecordStore<Imsi, Record, LIMIT>> Vlr<S> {
 
     /// Answers an event, and hands out the invoke of the dialogue that it opened.
     pub fn direct(&mut self, event: Event<'_>) -> Result<Handed, Refusal>
-        ensures answer { result ≡ direct (answered (state S.entries S.room self.old) (as_event event.entry)) }
-        ensures after { state S.entries S.room self.new ≡ after (state S.entries S.room self.old) (as_event event.entry) }
+        ensures answer { result ≡ direct (answered self.old (as_event event.entry)) }
+        ensures after { self.new ≡ after self.old (as_event event.entry) }
     {
         let answer = self.act(event)?;
         Ok(Handed::of(answer))
@@ -170,24 +170,24 @@ impl<S: RecordStore<Imsi, Record, LIMIT>> Vlr<S> {
 
     /// Sends an invoke, and answers 1; or 0, with nothing changed, where no unsent dialogue of its number is open.
     pub fn send(&mut self, invoke: Invoke) -> u8
-        ensures answer { result ≡ spending_answer (state S.entries S.room self.old) invoke.dialogue send }
-        ensures after { state S.entries S.room self.new ≡ spending_after (state S.entries S.room self.old) invoke.dialogue send }
+        ensures answer { result ≡ spending_answer self.old invoke.dialogue send }
+        ensures after { self.new ≡ spending_after self.old invoke.dialogue send }
     {
         spent(self.table.meet(invoke.spend(), Coming::Send, &[]))
     }
 
     /// Withdraws an invoke, which closes its dialogue and leaves the record, and answers as sending does.
     pub fn withdraw(&mut self, invoke: Invoke) -> u8
-        ensures answer { result ≡ spending_answer (state S.entries S.room self.old) invoke.dialogue withdraw }
-        ensures after { state S.entries S.room self.new ≡ spending_after (state S.entries S.room self.old) invoke.dialogue withdraw }
+        ensures answer { result ≡ spending_answer self.old invoke.dialogue withdraw }
+        ensures after { self.new ≡ spending_after self.old invoke.dialogue withdraw }
     {
         spent(self.table.meet(invoke.spend(), Coming::Withdraw, &[]))
     }
 
     /// Answers an event and sends the invoke of the dialogue that it opened.
     fn sent(&mut self, event: Event<'_>) -> Result<Answer, Refusal>
-        ensures answer { result ≡ answered (state S.entries S.room self.old) (as_event event.entry) }
-        ensures after { state S.entries S.room self.new ≡ sent_out (answered (state S.entries S.room self.old) (as_event event.entry)) (after (state S.entries S.room self.old) (as_event event.entry)) }
+        ensures answer { result ≡ answered self.old (as_event event.entry) }
+        ensures after { self.new ≡ sent_out (answered self.old (as_event event.entry)) (after self.old (as_event event.entry)) }
     {
         let Handed { answer, invoke } = self.direct(event)?;
         if let Some(invoke) = invoke {
@@ -199,9 +199,9 @@ impl<S: RecordStore<Imsi, Record, LIMIT>> Vlr<S> {
     /// Answers an event in bytes: the answer goes to the front of the area, an invoke is sent at once, and the
     /// length of the event is told. A refusal leaves register and area as they were.
     pub fn receive(&mut self, input: &[u8], area: &mut [u8]) -> Result<usize, Refusal>
-        ensures answer { result ≡ received (state S.entries S.room self.old) input.now area.old }
-        ensures after { state S.entries S.room self.new ≡ received_after (state S.entries S.room self.old) input.now area.old }
-        ensures area { area.new ≡ received_area (state S.entries S.room self.old) input.now area.old }
+        ensures answer { result ≡ received self.old input.now area.old }
+        ensures after { self.new ≡ received_after self.old input.now area.old }
+        ensures area { area.new ≡ received_area self.old input.now area.old }
     {
         if area.len() < ANSWER_LENGTH {
             return Err(Refusal::AreaTooShort);

@@ -2,7 +2,6 @@
 ghost use Rattle.std.specs.Prelude.{◌≡◌};
 ghost use Rattle.store.specs.Model.{at, first_from, numbered, start};
 ghost use Rattle.restoration.specs.Steps.{found};
-ghost use Rattle.visitor.specs.Register.{state};
 
 use crate::register::{LIMIT, Vlr};
 use dialogue::Dialogue;
@@ -13,28 +12,28 @@ use store::RecordStore;
 impl<S: RecordStore<Imsi, Record, LIMIT>> Vlr<S> {
     /// The record of a subscriber, if there is one.
     pub fn record(&self, imsi: Imsi) -> Option<Record>
-        ensures { result ≡ found (state S.entries S.room self.now) imsi.number }
+        ensures { result ≡ found self.now imsi.number }
     {
         self.store.find(imsi)
     }
 
     /// The first subscriber with a record, or the first above a given one.
     pub fn next_subscriber(&self, above: &Option<Imsi>) -> Option<Imsi>
-        ensures { numbered (λ k. k.number) result ≡ first_from (state S.entries S.room self.now).records (start (numbered (λ k. k.number) above.now)) }
+        ensures { numbered (λ k. k.number) result ≡ first_from self.now.records (start (numbered (λ k. k.number) above.now)) }
     {
         self.store.next(above)
     }
 
     /// The open dialogue of a number, if there is one.
     pub fn dialogue(&self, number: u32) -> Option<Dialogue>
-        ensures { result ≡ at (state S.entries S.room self.now).dialogues number }
+        ensures { result ≡ at self.now.dialogues number }
     {
         self.table.find(number)
     }
 
     /// The first number of an open dialogue, or the first above a given one.
     pub fn next_dialogue(&self, above: Option<u32>) -> Option<u32>
-        ensures { result ≡ first_from (state S.entries S.room self.now).dialogues (start above) }
+        ensures { result ≡ first_from self.now.dialogues (start above) }
     {
         self.table.next_open(above)
     }

@@ -2,12 +2,13 @@
 ghost use Rattle.std.specs.Prelude.{◌≡◌};
 ghost use Rattle.restoration.specs.State.{started};
 ghost use Rattle.restoration.specs.Steps.{planned_answer, planned_after};
-ghost use Rattle.visitor.specs.Register.{state, FitsSays, KeepSays};
+ghost use Rattle.visitor.specs.Register.{FitsSays, KeepSays};
 
 use dialogue::Table;
 use event::{Answer, Opened};
 use key::{Imsi, Refusal};
 use restoration::{Plan, Record};
+use std::marker::Model;
 use store::{RecordStore, room_for};
 
 /// The limit of IMSI numbers, as a store's parameter.
@@ -15,16 +16,25 @@ pub const LIMIT: u64 = 1_000_000_000_000_000;
 
 /// A visitor register above a record store.
 #[derive(Drop)]
-pub struct Vlr<S> {
+pub struct Vlr<S: RecordStore<Imsi, Record, LIMIT>> {
     pub(crate) store: S,
     pub(crate) table: Table,
     pub(crate) several: bool,
 }
 
+impl<S: RecordStore<Imsi, Record, LIMIT>> Model for Vlr<S> {
+    ghost use Rattle.dialogue.specs.Listed.{listed};
+    ghost use Rattle.restoration.specs.State.{State};
+
+    ghost Value = { State };
+
+    ghost view = { λ v. record { records = S.entries v.store; room = S.room v.store; dialogues = listed v.table.rows; last = v.table.last; several = v.several } };
+}
+
 impl<S: RecordStore<Imsi, Record, LIMIT>> Vlr<S> {
     /// A register that goes into service: its store is cleared, and numbers go on after the last one used.
     pub fn start(store: S, several: bool, last: u32) -> Vlr<S>
-        ensures { state S.entries S.room result ≡ started (S.room store) last several }
+        ensures { result ≡ started (S.room store) last several }
     {
         let mut store = store;
         store.clear();
@@ -37,7 +47,7 @@ impl<S: RecordStore<Imsi, Record, LIMIT>> Vlr<S> {
 
     /// Whether the record, if there is one, would be taken.
     fn fits(&self, imsi: Imsi, kept: Option<Record>) -> Result<(), Refusal>
-        ensures { FitsSays (state S.entries S.room self.now) imsi.number kept result }
+        ensures { FitsSays self.now imsi.number kept result }
     {
         match kept {
             Some(_) => room_for(&self.store, imsi),
@@ -47,8 +57,7 @@ impl<S: RecordStore<Imsi, Record, LIMIT>> Vlr<S> {
 
     /// Keeps the record, if there is one.
     pub(crate) fn keep(&mut self, imsi: Imsi, kept: Option<Record>) -> Result<(), Refusal>
-        ensures table { self.new.table ≡ self.old.table }
-        ensures kept { KeepSays (state S.entries S.room self.old) imsi.number kept result (state S.entries S.room self.new) }
+        ensures { KeepSays self.old imsi.number kept result self.new }
     {
         match kept {
             Some(record) => self.store.put(imsi, record),
@@ -58,8 +67,8 @@ impl<S: RecordStore<Imsi, Record, LIMIT>> Vlr<S> {
 
     /// Carries a plan out, or turns it down and leaves all as it was.
     pub(crate) fn carry(&mut self, imsi: Imsi, plan: Plan) -> Result<Answer, Refusal>
-        ensures answer { result ≡ planned_answer (state S.entries S.room self.old) imsi.number plan }
-        ensures after { state S.entries S.room self.new ≡ planned_after (state S.entries S.room self.old) imsi.number plan }
+        ensures answer { result ≡ planned_answer self.old imsi.number plan }
+        ensures after { self.new ≡ planned_after self.old imsi.number plan }
     {
         match plan.opens {
             None => {

@@ -1,15 +1,12 @@
-use Rattle.std.proofs.Common.{◌≡◌, false, sym, refl, ◌∙◌, rules}
+use Rattle.std.proofs.Common.{◌≡◌, false, sym, refl, ◌∙◌}
 use Rattle.store.specs.Model.{holds}
 use Rattle.store.proofs.Maps.{without-none}
 use Rattle.visitor.proofs.Same.{same_state}
 use Rattle.visitor.proofs.register.Vlr.cancel.Goals as goal
 
 -- where the key did not stand, the map without it is the map
-pub returns-else-remove : goal.returns-else-remove
-returns-else-remove g c =
-    let records = g.S.RecordStore.entries c.args.self.now.store in
+pub returns-else-remove-clause-after : goal.returns-else-remove-clause-after
+returns-else-remove-clause-after g c =
+    let records = g.S.RecordStore.entries c.self.inside.store in
     let stood : holds records c.args.imsi.number ≡ false = sym c.remove.ensures.stood ∙ c.if-remove.false in
-    record {
-      answer = rw stood (search rules);
-      after = rw stood (same_state (c.remove.ensures.entries ∙ without-none records c.args.imsi.number stood) c.remove.ensures.room refl refl refl);
-    }
+    rw (← c.self.view_is, stood) (same_state (c.remove.ensures.entries ∙ without-none records c.args.imsi.number stood) c.remove.ensures.room refl refl refl)
