@@ -4,7 +4,7 @@ ghost use Rattle.store.specs.Model.{each, tally};
 ghost use Rattle.restoration.specs.Steps.{end_answer, end_after, reset_answer, reset_after, concerns, reset_one};
 
 use crate::events::plain;
-use crate::register::{LIMIT, Vlr};
+use crate::register::Vlr;
 use dialogue::{Coming, Met};
 use event::{Answer, Ignored, Reply, Subject};
 use key::{HlrId, Imsi, Refusal};
@@ -12,7 +12,7 @@ use restoration::{Outcome, Record, plan_end};
 use store::RecordStore;
 
 /// Takes the confirmation of the location from each record that the digits concern, and counts them.
-fn unlocate<S: RecordStore<Imsi, Record, LIMIT>>(store: &mut S, id: HlrId) -> u64
+fn unlocate<S: RecordStore<Imsi, Record>>(store: &mut S, id: HlrId) -> u64
     ensures room { S.room store.new ≡ S.room store.old }
     ensures count { result ≡ tally (concerns id.digits id.value) (S.entries store.old) }
     ensures records { S.entries store.new ≡ each (reset_one id.digits id.value) (S.entries store.old) }
@@ -30,7 +30,7 @@ fn unlocate<S: RecordStore<Imsi, Record, LIMIT>>(store: &mut S, id: HlrId) -> u6
     count
 }
 
-impl<S: RecordStore<Imsi, Record, LIMIT>> Vlr<S> {
+impl<S: RecordStore<Imsi, Record>> Vlr<S> {
     /// The home register ends a dialogue.
     pub fn end(&mut self, dialogue: u32, outcome: Outcome) -> Result<Answer, Refusal>
         ensures answer { result ≡ end_answer self.old dialogue outcome }

@@ -6,7 +6,7 @@ ghost use Rattle.dialogue.specs.Messages.{none_ignored};
 ghost use Rattle.visitor.specs.Register.{Carried};
 ghost use Rattle.restoration.specs.Steps.{found, busy, planned_answer, planned_after, provide, accessed, went_out, registered, updating, reached, plain, insert_answer, insert_after, end_answer, end_after, reset_answer, reset_after, cancel_answer, cancel_after, restart_after};
 
-use crate::register::{LIMIT, Vlr};
+use crate::register::Vlr;
 use dialogue::{Coming, Met};
 use event::{Answer, Handling, Ignored, Kind, Reply, Subject};
 use key::{Imsi, Refusal};
@@ -16,7 +16,7 @@ use restoration::{
 };
 use store::RecordStore;
 
-impl<S: RecordStore<Imsi, Record, LIMIT>> Vlr<S> {
+impl<S: RecordStore<Imsi, Record>> Vlr<S> {
     /// Carries out what is planned of the subscriber's record and of whether a dialogue of the kind is open.
     fn planned<P: FnOnce(Option<Record>, bool) -> Plan>(
         &mut self,

@@ -9,7 +9,7 @@ ghost use Rattle.visitor.specs.Invokes.{direct};
 ghost use Rattle.visitor.specs.Register.{ImsiSays, AuthSays, OutcomeSays};
 
 use crate::invoke::{Handed, Invoke};
-use crate::register::{LIMIT, Vlr};
+use crate::register::Vlr;
 use dialogue::{Coming, Met};
 use event::{ANSWER_LENGTH, Answer, Event, GROUP_LENGTH, decode};
 use key::{HlrId, Imsi, Refusal};
@@ -58,7 +58,7 @@ fn spent(met: Met) -> u8
     }
 }
 
-impl<S: RecordStore<Imsi, Record, LIMIT>> Vlr<S> {
+impl<S: RecordStore<Imsi, Record>> Vlr<S> {
     fn checked_access(&mut self, imsi: u64, auth: u8, msc: u8, area: u16) -> Result<Answer, Refusal>
         ensures answer { result ≡ answered self.old (access imsi auth msc area) }
         ensures after { self.new ≡ after self.old (access imsi auth msc area) }
@@ -121,7 +121,7 @@ impl<S: RecordStore<Imsi, Record, LIMIT>> Vlr<S> {
     }
 }
 
-impl<S: RecordStore<Imsi, Record, LIMIT>> Vlr<S> {
+impl<S: RecordStore<Imsi, Record>> Vlr<S> {
     /// Answers an event of which nothing is known but its type.
     fn act(&mut self, event: Event<'_>) -> Result<Answer, Refusal>
         ensures answer { result ≡ answered self.old (as_event event.entry) }

@@ -3,13 +3,13 @@ ghost use Rattle.std.specs.Prelude.{◌≡◌};
 ghost use Rattle.store.specs.Model.{at, first_from, numbered, start};
 ghost use Rattle.restoration.specs.Steps.{found};
 
-use crate::register::{LIMIT, Vlr};
+use crate::register::Vlr;
 use dialogue::Dialogue;
 use key::Imsi;
 use restoration::Record;
 use store::RecordStore;
 
-impl<S: RecordStore<Imsi, Record, LIMIT>> Vlr<S> {
+impl<S: RecordStore<Imsi, Record>> Vlr<S> {
     /// The record of a subscriber, if there is one.
     pub fn record(&self, imsi: Imsi) -> Option<Record>
         ensures { result ≡ found self.now imsi.number }

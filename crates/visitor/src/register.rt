@@ -11,18 +11,15 @@ use restoration::{Plan, Record};
 use std::marker::Model;
 use store::{RecordStore, room_for};
 
-/// The limit of IMSI numbers, as a store's parameter.
-pub const LIMIT: u64 = 1_000_000_000_000_000;
-
 /// A visitor register above a record store.
 #[derive(Drop)]
-pub struct Vlr<S: RecordStore<Imsi, Record, LIMIT>> {
+pub struct Vlr<S: RecordStore<Imsi, Record>> {
     pub(crate) store: S,
     pub(crate) table: Table,
     pub(crate) several: bool,
 }
 
-impl<S: RecordStore<Imsi, Record, LIMIT>> Model for Vlr<S> {
+impl<S: RecordStore<Imsi, Record>> Model for Vlr<S> {
     ghost use Rattle.dialogue.specs.Listed.{listed};
     ghost use Rattle.restoration.specs.State.{State};
 
@@ -31,7 +28,7 @@ impl<S: RecordStore<Imsi, Record, LIMIT>> Model for Vlr<S> {
     ghost view = { λ v. record { records = S.entries v.store; room = S.room v.store; dialogues = listed v.table.rows; last = v.table.last; several = v.several } };
 }
 
-impl<S: RecordStore<Imsi, Record, LIMIT>> Vlr<S> {
+impl<S: RecordStore<Imsi, Record>> Vlr<S> {
     /// A register that goes into service: its store is cleared, and numbers go on after the last one used.
     pub fn start(store: S, several: bool, last: u32) -> Vlr<S>
         ensures { result ≡ started (S.room store) last several }

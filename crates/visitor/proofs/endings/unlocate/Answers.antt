@@ -18,7 +18,7 @@ loop-imsi-init g c =
 
 pub unwrap-record-requires : goal.unwrap-record-requires
 unwrap-record-requires g c =
-    rw c.find.ensures (found _ _ _ _ _ _ (g.S.RecordStore.lawful c.args.store.now).rising c.loop-imsi.invariant.1 c.in-Some.ensures)
+    rw c.find.ensures (found _ _ _ _ _ _ (g.met.S.RecordStore.lawful c.args.store.now).rising c.loop-imsi.invariant.1 c.in-Some.ensures)
 
 -- a record that is there is replaced, however full the store
 pub unwrap-requires : goal.unwrap-requires
@@ -27,18 +27,18 @@ unwrap-requires g c =
 
 pub overflow_add-count : goal.overflow_add-count
 overflow_add-count g c =
-    let law = g.S.RecordStore.lawful c.args.store.now in
+    let law = g.met.S.RecordStore.lawful c.args.store.now in
     omega (arith, c.loop-imsi.invariant.2, turn_low _ _ _ _ _ _ law.rising c.loop-imsi.invariant.1 c.in-Some.ensures, law.bounded, law.small)
 
 pub loop-imsi-smaller-then-begins_with : goal.loop-imsi-smaller-then-begins_with
-loop-imsi-smaller-then-begins_with g c = turn_falls _ _ _ _ _ _ (g.S.RecordStore.lawful c.args.store.now).rising c.loop-imsi.invariant.1 c.in-Some.ensures
+loop-imsi-smaller-then-begins_with g c = turn_falls _ _ _ _ _ _ (g.met.S.RecordStore.lawful c.args.store.now).rising c.loop-imsi.invariant.1 c.in-Some.ensures
 
 pub loop-imsi-smaller : goal.loop-imsi-smaller
-loop-imsi-smaller g c = turn_falls _ _ _ _ _ _ (g.S.RecordStore.lawful c.args.store.now).rising c.loop-imsi.invariant.1 c.in-Some.ensures
+loop-imsi-smaller g c = turn_falls _ _ _ _ _ _ (g.met.S.RecordStore.lawful c.args.store.now).rising c.loop-imsi.invariant.1 c.in-Some.ensures
 
 pub loop-imsi-preserved-then-begins_with : goal.loop-imsi-preserved-then-begins_with
 loop-imsi-preserved-then-begins_with g c =
-    let up = (g.S.RecordStore.lawful c.args.store.now).rising in
+    let up = (g.met.S.RecordStore.lawful c.args.store.now).rising in
     let id = c.args.id in
     let concerned : begins c.in-Some.imsi.number id.digits id.value ≡ true = sym c.begins_with.ensures ∙ c.if-begins_with.true in (
       c.put.ensures.room ∙ c.loop-imsi.invariant.0,
@@ -48,7 +48,7 @@ loop-imsi-preserved-then-begins_with g c =
 
 pub loop-imsi-preserved : goal.loop-imsi-preserved
 loop-imsi-preserved g c =
-    let up = (g.S.RecordStore.lawful c.args.store.now).rising in
+    let up = (g.met.S.RecordStore.lawful c.args.store.now).rising in
     let id = c.args.id in
     let passed : begins c.in-Some.imsi.number id.digits id.value ≡ false = sym c.begins_with.ensures ∙ c.if-begins_with.false in
     (c.loop-imsi.invariant.0, turn_passes _ _ _ _ _ _ up c.loop-imsi.invariant.1 c.in-Some.ensures passed, c.loop-imsi.invariant.2 ∙ sym (rw passed at (turn_counts _ _ _ _ _ _ up c.loop-imsi.invariant.1 c.in-Some.ensures)))
