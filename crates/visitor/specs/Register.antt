@@ -1,6 +1,5 @@
 -- What the inner calls of a register say. Assumes nothing.
 use Rattle.std.specs.Prelude.{◌≡◌, ℕ, true, false, Ok, Err, Option, Result, nat_lt}
-use Rattle.key.specs.declared.imsi.Imsi.{Imsi}
 use Rattle.key.specs.declared.refusal.Refusal.{Refusal}
 use Rattle.key.specs.declared.refusal.Refusal.TheVariants.{OutOfRange, StoreFull}
 use Rattle.restoration.specs.declared.record.Record.{Record}
@@ -9,7 +8,7 @@ use Rattle.restoration.specs.declared.plan.Plan.{Plan}
 use Rattle.restoration.specs.State.{State}
 use Rattle.restoration.specs.declared.contacts.Auth.{Auth}
 use Rattle.restoration.specs.declared.updates.Outcome.{Outcome}
-use Rattle.restoration.specs.Steps.{planned_answer, planned_after, keep, has_room, is_imsi, auth_of, outcome_of}
+use Rattle.restoration.specs.Steps.{planned_answer, planned_after, keep, has_room, auth_of, outcome_of}
 
 -- whether a record would be taken
 abbrev pub FitsSays : {T : Type 0} → State → ℕ → Option Record → Result T Refusal → Type 0
@@ -20,11 +19,6 @@ FitsSays s k kept (Err e) = (e ≡ StoreFull) × (has_room s k kept ≡ false)
 abbrev pub KeepSays : {T : Type 0} → State → ℕ → Option Record → Result T Refusal → State → Type 0
 KeepSays s k kept (Ok _) t = (has_room s k kept ≡ true) × (t ≡ record { records = keep s.records k kept; room = s.room; dialogues = s.dialogues; last = s.last; several = s.several })
 KeepSays s k kept (Err e) t = (e ≡ StoreFull) × (has_room s k kept ≡ false) × (t ≡ s)
-
--- the IMSI of a number
-abbrev pub ImsiSays : ℕ → Result Imsi Refusal → Type 0
-ImsiSays n (Ok k) = (k.number ≡ n) × (is_imsi n ≡ true)
-ImsiSays n (Err e) = (e ≡ OutOfRange) × (is_imsi n ≡ false)
 
 -- how authentication went, and how a dialogue ended, by their numbers
 abbrev pub AuthSays : ℕ → Result Auth Refusal → Type 0

@@ -6,7 +6,7 @@ ghost use Rattle.dialogue.specs.Dialogues.{send, withdraw};
 ghost use Rattle.restoration.specs.Steps.{answered, after, sent_out, spent_by, spending_answer, spending_after};
 ghost use Rattle.restoration.specs.Received.{received, received_after, received_area};
 ghost use Rattle.visitor.specs.Invokes.{direct};
-ghost use Rattle.visitor.specs.Register.{ImsiSays, AuthSays, OutcomeSays};
+ghost use Rattle.visitor.specs.Register.{AuthSays, OutcomeSays};
 
 use crate::invoke::{Handed, Invoke};
 use crate::register::Vlr;
@@ -15,16 +15,6 @@ use event::{ANSWER_LENGTH, Answer, Event, GROUP_LENGTH, decode};
 use key::{HlrId, Imsi, Refusal};
 use restoration::{Auth, Outcome, Record};
 use store::RecordStore;
-
-/// The IMSI of a number.
-fn imsi_of(number: u64) -> Result<Imsi, Refusal>
-    ensures { ImsiSays number result }
-{
-    match Imsi::new(number) {
-        Some(imsi) => Ok(imsi),
-        None => Err(Refusal::OutOfRange),
-    }
-}
 
 /// How authentication went, by its number.
 fn auth_of(number: u8) -> Result<Auth, Refusal>
@@ -59,39 +49,6 @@ fn spent(met: Met) -> u8
 }
 
 impl<S: RecordStore<Imsi, Record>> Vlr<S> {
-    fn checked_access(&mut self, imsi: u64, auth: u8, msc: u8, area: u16) -> Result<Answer, Refusal>
-        ensures answer { result ≡ answered self.old (access imsi auth msc area) }
-        ensures after { self.new ≡ after self.old (access imsi auth msc area) }
-    {
-        let imsi = imsi_of(imsi)?;
-        let auth = auth_of(auth)?;
-        self.access(imsi, auth, msc, area)
-    }
-
-    fn checked_outgoing(&mut self, imsi: u64, auth: u8, msc: u8) -> Result<Answer, Refusal>
-        ensures answer { result ≡ answered self.old (outgoing imsi auth msc) }
-        ensures after { self.new ≡ after self.old (outgoing imsi auth msc) }
-    {
-        let imsi = imsi_of(imsi)?;
-        let auth = auth_of(auth)?;
-        self.outgoing(imsi, auth, msc)
-    }
-
-    fn checked_registration(
-        &mut self,
-        imsi: u64,
-        auth: u8,
-        msc: u8,
-        area: u16,
-    ) -> Result<Answer, Refusal>
-        ensures answer { result ≡ answered self.old (registration imsi auth msc area) }
-        ensures after { self.new ≡ after self.old (registration imsi auth msc area) }
-    {
-        let imsi = imsi_of(imsi)?;
-        let auth = auth_of(auth)?;
-        self.registration(imsi, auth, msc, area)
-    }
-
     fn checked_insert(&mut self, dialogue: u32, count: u8, groups: &[u8]) -> Result<Answer, Refusal>
         ensures answer { result ≡ answered self.old (insert dialogue count groups.now) }
         ensures after { self.new ≡ after self.old (insert dialogue count groups.now) }
@@ -102,59 +59,51 @@ impl<S: RecordStore<Imsi, Record>> Vlr<S> {
         self.insert(dialogue, groups)
     }
 
-    fn checked_end(&mut self, dialogue: u32, outcome: u8) -> Result<Answer, Refusal>
-        ensures answer { result ≡ answered self.old (end dialogue outcome) }
-        ensures after { self.new ≡ after self.old (end dialogue outcome) }
-    {
-        let outcome = outcome_of(outcome)?;
-        self.end(dialogue, outcome)
-    }
-
     fn checked_reset(&mut self, digits: u8, value: u64) -> Result<Answer, Refusal>
         ensures answer { result ≡ answered self.old (reset digits value) }
         ensures after { self.new ≡ after self.old (reset digits value) }
     {
-        match HlrId::new(digits, value) {
-            Some(id) => Ok(self.reset(id)),
-            None => Err(Refusal::OutOfRange),
-        }
+        let id = HlrId::new(digits, value).ok_or(Refusal::OutOfRange)?;
+        Ok(self.reset(id))
     }
-}
 
-impl<S: RecordStore<Imsi, Record>> Vlr<S> {
     /// Answers an event of which nothing is known but its type.
     fn act(&mut self, event: Event<'_>) -> Result<Answer, Refusal>
         ensures answer { result ≡ answered self.old (as_event event.entry) }
         ensures after { self.new ≡ after self.old (as_event event.entry) }
     {
         match event {
-            Event::ProvideRoamingNumber(imsi) => self.provide_roaming_number(imsi_of(imsi)?),
-            Event::CallInformation(imsi) => Ok(self.call_information(imsi_of(imsi)?)),
-            Event::ShortMessageV2(imsi) => Ok(self.short_message_v2(imsi_of(imsi)?)),
-            Event::ShortMessageV1(imsi) => Ok(self.short_message_v1(imsi_of(imsi)?)),
-            Event::LocationRequest(imsi) => Ok(self.location_request(imsi_of(imsi)?)),
+            Event::ProvideRoamingNumber(imsi) => self.provide_roaming_number(Imsi::try_from(imsi)?),
+            Event::CallInformation(imsi) => Ok(self.call_information(Imsi::try_from(imsi)?)),
+            Event::ShortMessageV2(imsi) => Ok(self.short_message_v2(Imsi::try_from(imsi)?)),
+            Event::ShortMessageV1(imsi) => Ok(self.short_message_v1(Imsi::try_from(imsi)?)),
+            Event::LocationRequest(imsi) => Ok(self.location_request(Imsi::try_from(imsi)?)),
             Event::Access {
                 imsi,
                 auth,
                 msc,
                 area,
-            } => self.checked_access(imsi, auth, msc, area),
-            Event::Outgoing { imsi, auth, msc } => self.checked_outgoing(imsi, auth, msc),
+            } => self.access(Imsi::try_from(imsi)?, auth_of(auth)?, msc, area),
+            Event::Outgoing { imsi, auth, msc } => self.outgoing(
+                Imsi::try_from(imsi)?,
+                auth_of(auth)?,
+                msc,
+            ),
             Event::Registration {
                 imsi,
                 auth,
                 msc,
                 area,
-            } => self.checked_registration(imsi, auth, msc, area),
-            Event::OpenUpdate(imsi) => self.open_update(imsi_of(imsi)?),
+            } => self.registration(Imsi::try_from(imsi)?, auth_of(auth)?, msc, area),
+            Event::OpenUpdate(imsi) => self.open_update(Imsi::try_from(imsi)?),
             Event::Insert {
                 dialogue,
                 count,
                 groups,
             } => self.checked_insert(dialogue, count, groups),
-            Event::End { dialogue, outcome } => self.checked_end(dialogue, outcome),
+            Event::End { dialogue, outcome } => self.end(dialogue, outcome_of(outcome)?),
             Event::Reset { digits, value } => self.checked_reset(digits, value),
-            Event::Cancel(imsi) => Ok(self.cancel(imsi_of(imsi)?)),
+            Event::Cancel(imsi) => Ok(self.cancel(Imsi::try_from(imsi)?)),
             Event::Restart => Ok(self.restart()),
         }
     }
