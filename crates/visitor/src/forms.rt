@@ -53,7 +53,7 @@ impl<S: RecordStore<Imsi, Record>> Vlr<S> {
         ensures answer { result ≡ answered self.old (insert dialogue count groups.now) }
         ensures after { self.new ≡ after self.old (insert dialogue count groups.now) }
     {
-        if count < 1 || count > 6 || groups.len() != GROUP_LENGTH * count as usize {
+        if !(1..=6).contains(&count) || groups.len() != GROUP_LENGTH * count as usize {
             return Err(Refusal::OutOfRange);
         }
         self.insert(dialogue, groups)
@@ -113,8 +113,7 @@ impl<S: RecordStore<Imsi, Record>> Vlr<S> {
         ensures answer { result ≡ direct (answered self.old (as_event event.entry)) }
         ensures after { self.new ≡ after self.old (as_event event.entry) }
     {
-        let answer = self.act(event)?;
-        Ok(Handed::of(answer))
+        self.act(event).map(Handed::of)
     }
 
     /// Sends an invoke, and answers 1; or 0, with nothing changed, where no unsent dialogue of its number is open.

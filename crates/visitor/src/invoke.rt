@@ -1,10 +1,11 @@
 //! The invoke of a dialogue: the right, and the duty, to send it or to withdraw it.
 ghost use Rattle.std.specs.Prelude.{◌≡◌, true, false};
-ghost use Rattle.visitor.specs.Invokes.{hand};
+ghost use Rattle.visitor.specs.Invokes.{fresh, hand};
+ghost use Rattle.restoration.specs.Steps.{invoke_of};
 
-use event::{Answer, Kind};
+use event::{Answer, Kind, Opened};
 
-/// It cannot be let go before it is spent, and it can be spent only once.
+/// It cannot be let go before it is spent, and it can be spent only once: the project wants the drop to demand this flag.
 pub struct Invoke {
     dialogue: u32,
     spent: bool,
@@ -28,6 +29,19 @@ pub struct Handed {
 }
 
 impl Invoke {
+    /// The invoke of a dialogue that opened. A stand-alone update needs none.
+    fn of(opened: Opened) -> Option<Invoke>
+        ensures { result ≡ fresh (invoke_of opened.kind opened.dialogue) }
+    {
+        match opened.kind {
+            Kind::RestoreData | Kind::UpdateLocation => Some(Invoke {
+                dialogue: opened.dialogue,
+                spent: false,
+            }),
+            Kind::StandAlone => None,
+        }
+    }
+
     /// The number of its dialogue.
     pub fn dialogue(&self) -> u32
         ensures { result ≡ self.now.dialogue }
@@ -36,30 +50,20 @@ impl Invoke {
     }
 
     /// Spends it, and tells the number of its dialogue.
-    pub(crate) fn spend(self) -> u32
+    pub(crate) fn spend(mut self) -> u32
         ensures { result ≡ self.dialogue }
     {
-        let mut invoke = self;
-        invoke.spent = true;
-        invoke.dialogue
+        self.spent = true;
+        self.dialogue
     }
 }
 
 impl Handed {
-    /// The answer with what it hands out: Restore Data and Update Location have an invoke.
+    /// The answer with what it hands out. It is no `From`: an invoke that anybody could make would grant nothing.
     pub(crate) fn of(answer: Answer) -> Handed
         ensures { result ≡ hand answer }
     {
-        let invoke = match answer.opened {
-            Some(opened) => match opened.kind {
-                Kind::RestoreData | Kind::UpdateLocation => Some(Invoke {
-                    dialogue: opened.dialogue,
-                    spent: false,
-                }),
-                Kind::StandAlone => None,
-            },
-            None => None,
-        };
+        let invoke = answer.opened.and_then(Invoke::of);
         Handed { answer, invoke }
     }
 }

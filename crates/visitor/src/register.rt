@@ -30,10 +30,9 @@ impl<S: RecordStore<Imsi, Record>> Model for Vlr<S> {
 
 impl<S: RecordStore<Imsi, Record>> Vlr<S> {
     /// A register that goes into service: its store is cleared, and numbers go on after the last one used.
-    pub fn start(store: S, several: bool, last: u32) -> Vlr<S>
+    pub fn start(mut store: S, several: bool, last: u32) -> Vlr<S>
         ensures { result ≡ started (S.room store) last several }
     {
-        let mut store = store;
         store.clear();
         Vlr {
             store,
