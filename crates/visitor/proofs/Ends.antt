@@ -25,7 +25,7 @@ ended-room s kind good subscriber k None h = refl
 ended-room s kind good subscriber k (Some v) h = held-room s k (ended kind good subscriber (Some v)) (takes-some s.room s.records k v h)
 
 -- so what an end leaves is kept
-pub end-kept : {T : Type 0} (d : Dialogue) (how : Outcome) (s : State) (k : ℕ) (p : Plan) (r : Result T Refusal) (now : State) → KeepSays s k p.kept r now → p ≡ end_plan d how (found s k) → IsOk r
-end-kept d how s k p r now says planned =
+pub end_kept : {T : Type 0} (d : Dialogue) (how : Outcome) (s : State) (k : ℕ) (p : Plan) (r : Result T Refusal) (now : State) → KeepSays s k p.kept r now → p ≡ end_plan d how (found s k) → IsOk r
+end_kept d how s k p r now says planned =
     let old = found s k in
     keep-taken s k p.kept r now says (ap (λ (q : Plan). has_room s k q.kept) planned ∙ ended-room s d.kind (is_good d how old) (resulting_data d.kind d.draft old) k old refl)

@@ -74,7 +74,7 @@ impl<S: RecordStore<Imsi, Record>> Vlr<S> {
             Some(kind) => {
                 self.fits(imsi, plan.kept)?;
                 let dialogue = self.table.open(imsi, kind)?;
-                self.keep(imsi, plan.kept)?;
+                self.keep(imsi, plan.kept).unwrap();
                 Ok(plan.answer(imsi.number(), Some(Opened { kind, dialogue })))
             }
         }
