@@ -1,5 +1,6 @@
 -- What each event is answered, and what the register is after it. Assumes nothing.
 use Rattle.std.specs.Prelude.{ℕ, ◌+◌, ◌*◌, Bool, true, false, cond, ◌&&◌, List, [], length, Some, None, Ok, Err, Option, Result, ◌==◌, nat_le, nat_lt}
+use Rattle.std.specs.Result.{is_ok}
 use Rattle.key.specs.declared.refusal.Refusal.{Refusal}
 use Rattle.key.specs.declared.refusal.Refusal.TheVariants.{OutOfRange, StoreFull, DialogueNotOpen}
 use Rattle.key.specs.Figures.{begins, is_hlr_id}
@@ -242,13 +243,9 @@ after s (reset digits value) = same_unless (is_hlr_id digits value) s (reset_aft
 after s (cancel k) = same_unless (is_imsi k) s (cancel_after s k)
 after s restart = restart_after s
 
--- spending the invoke of a dialogue: 1, or 0 with nothing changed where no unsent one is open
-abbrev pub spent_by : Result Met Refusal → ℕ
-spent_by (Ok m) = 1
-spent_by (Err e) = 0
-
-abbrev pub spending_answer : State → ℕ → Comes → ℕ
-spending_answer s n c = spent_by (met_at (at s.dialogues n) c)
+-- whether the invoke of a dialogue is spent; where no unsent one is open nothing changes
+abbrev pub spending_answer : State → ℕ → Comes → Bool
+spending_answer s n c = is_ok (met_at (at s.dialogues n) c)
 
 abbrev pub spending_after : State → ℕ → Comes → State
 spending_after s n c = with_dialogues s (met_on s.dialogues n c)

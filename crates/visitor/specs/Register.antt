@@ -1,14 +1,12 @@
 -- What the inner calls of a register say. Assumes nothing.
-use Rattle.std.specs.Prelude.{◌≡◌, ℕ, true, false, Ok, Err, Option, Result, nat_lt}
+use Rattle.std.specs.Prelude.{◌≡◌, ℕ, true, false, Ok, Err, Option, Result}
 use Rattle.key.specs.declared.refusal.Refusal.{Refusal}
-use Rattle.key.specs.declared.refusal.Refusal.TheVariants.{OutOfRange, StoreFull}
+use Rattle.key.specs.declared.refusal.Refusal.TheVariants.{StoreFull}
 use Rattle.restoration.specs.declared.record.Record.{Record}
 use Rattle.event.specs.declared.answer.Answer.{Answer}
 use Rattle.restoration.specs.declared.plan.Plan.{Plan}
 use Rattle.restoration.specs.State.{State}
-use Rattle.restoration.specs.declared.contacts.Auth.{Auth}
-use Rattle.restoration.specs.declared.updates.Outcome.{Outcome}
-use Rattle.restoration.specs.Steps.{planned_answer, planned_after, keep, has_room, auth_of, outcome_of}
+use Rattle.restoration.specs.Steps.{planned_answer, planned_after, keep, has_room}
 
 -- whether a record would be taken
 abbrev pub FitsSays : {T : Type 0} → State → ℕ → Option Record → Result T Refusal → Type 0
@@ -19,15 +17,6 @@ FitsSays s k kept (Err e) = (e ≡ StoreFull) × (has_room s k kept ≡ false)
 abbrev pub KeepSays : {T : Type 0} → State → ℕ → Option Record → Result T Refusal → State → Type 0
 KeepSays s k kept (Ok _) t = (has_room s k kept ≡ true) × (t ≡ record { records = keep s.records k kept; room = s.room; dialogues = s.dialogues; last = s.last; several = s.several })
 KeepSays s k kept (Err e) t = (e ≡ StoreFull) × (has_room s k kept ≡ false) × (t ≡ s)
-
--- how authentication went, and how a dialogue ended, by their numbers
-abbrev pub AuthSays : ℕ → Result Auth Refusal → Type 0
-AuthSays n (Ok a) = (a ≡ auth_of n) × (nat_lt n 2 ≡ true)
-AuthSays n (Err e) = (e ≡ OutOfRange) × (nat_lt n 2 ≡ false)
-
-abbrev pub OutcomeSays : ℕ → Result Outcome Refusal → Type 0
-OutcomeSays n (Ok o) = (o ≡ outcome_of n) × (nat_lt n 2 ≡ true)
-OutcomeSays n (Err e) = (e ≡ OutOfRange) × (nat_lt n 2 ≡ false)
 
 -- a plan that is such was carried out, or turned down
 pub record Carried (s : State) (k : ℕ) (IsPlan : Plan → Type 0) (answer : Result Answer Refusal) (t : State) : Type 0 where

@@ -5,7 +5,7 @@ ghost use Rattle.restoration.specs.Steps.{end_answer, end_after, reset_answer, r
 
 use crate::events::plain;
 use crate::register::Vlr;
-use dialogue::{Coming, Met};
+use dialogue::Coming;
 use event::{Answer, Ignored, Reply, Subject};
 use key::{HlrId, Imsi, Refusal};
 use restoration::{Outcome, Record, plan_end};
@@ -39,13 +39,9 @@ impl<S: RecordStore<Imsi, Record>> Vlr<S> {
         let row = self.table.find(dialogue).ok_or(Refusal::DialogueNotOpen)?;
         let imsi = Imsi::new(row.imsi).unwrap();
         let plan = plan_end(row, outcome, self.store.find(imsi));
-        match self.table.meet(dialogue, Coming::End, &[]) {
-            Met::Ended => {
-                self.keep(imsi, plan.kept).unwrap();
-                Ok(plan.answer(row.imsi, None))
-            }
-            _ => Err(Refusal::DialogueNotOpen),
-        }
+        self.table.meet(dialogue, Coming::End)?;
+        self.keep(imsi, plan.kept).unwrap();
+        Ok(plan.answer(row.imsi, None))
     }
 
     /// A home register lost data: subscribers whose IMSI begins with its digits have to be located again.

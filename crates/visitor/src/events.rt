@@ -128,14 +128,11 @@ impl<S: RecordStore<Imsi, Record>> Vlr<S> {
         ensures after { self.new ≡ insert_after self.old dialogue groups.now }
     {
         let row = self.table.find(dialogue).ok_or(Refusal::DialogueNotOpen)?;
-        match self.table.meet(dialogue, Coming::Insert, groups) {
-            Met::Taken(ignored) => Ok(plain(Reply::Done, ignored, Subject::Subscriber(row.imsi))),
-            Met::Rejected => Ok(plain(
-                Reply::UnexpectedDataValue,
-                Ignored::NONE,
-                Subject::Subscriber(row.imsi),
-            )),
-            _ => Err(Refusal::DialogueNotOpen),
+        let subject = Subject::Subscriber(row.imsi);
+        match self.table.meet(dialogue, Coming::Insert(groups))? {
+            Met::Taken(ignored) => Ok(plain(Reply::Done, ignored, subject)),
+            Met::Rejected => Ok(plain(Reply::UnexpectedDataValue, Ignored::NONE, subject)),
+            _ => unreachable!(),
         }
     }
 

@@ -3,62 +3,31 @@ ghost use Rattle.std.specs.Prelude.{◌≡◌, ℕ};
 ghost use Rattle.event.specs.Layout.{access, outgoing, registration, insert, end, reset};
 ghost use Rattle.event.specs.Seen.{as_event};
 ghost use Rattle.dialogue.specs.Dialogues.{send, withdraw};
-ghost use Rattle.restoration.specs.Steps.{answered, after, sent_out, spent_by, spending_answer, spending_after};
+ghost use Rattle.restoration.specs.Steps.{answered, after, sent_out, spending_answer, spending_after};
 ghost use Rattle.restoration.specs.Received.{received, received_after, received_area};
 ghost use Rattle.visitor.specs.Invokes.{direct};
-ghost use Rattle.visitor.specs.Register.{AuthSays, OutcomeSays};
 
 use crate::invoke::{Handed, Invoke};
 use crate::register::Vlr;
-use dialogue::{Coming, Met};
-use event::{ANSWER_LENGTH, Answer, Event, GROUP_LENGTH, decode};
+use dialogue::Coming;
+use event::{ANSWER_LENGTH, Answer, Decoded, Event, GROUP_LENGTH, decode};
 use key::{HlrId, Imsi, Refusal};
-use restoration::{Auth, Outcome, Record};
+use restoration::{Auth, Outcome, Received, Record};
 use store::RecordStore;
 
-/// How authentication went, by its number.
-fn auth_of(number: u8) -> Result<Auth, Refusal>
-    ensures { AuthSays number result }
-{
-    match number {
-        0 => Ok(Auth::Failed),
-        1 => Ok(Auth::Passed),
-        _ => Err(Refusal::OutOfRange),
-    }
-}
-
-/// How a dialogue ended, by its number.
-fn outcome_of(number: u8) -> Result<Outcome, Refusal>
-    ensures { OutcomeSays number result }
-{
-    match number {
-        0 => Ok(Outcome::Well),
-        1 => Ok(Outcome::NotWell),
-        _ => Err(Refusal::OutOfRange),
-    }
-}
-
-/// What spending an invoke answers: 1, or 0 where the dialogue refused it.
-fn spent(met: Met) -> u8
-    ensures { result ≡ spent_by met }
-{
-    match met {
-        Met::Refused => 0,
-        _ => 1,
-    }
-}
-
 impl<S: RecordStore<Imsi, Record>> Vlr<S> {
+    /// An Insert of which nothing is known but its type: one to six groups, and no other bytes.
     fn checked_insert(&mut self, dialogue: u32, count: u8, groups: &[u8]) -> Result<Answer, Refusal>
         ensures answer { result ≡ answered self.old (insert dialogue count groups.now) }
         ensures after { self.new ≡ after self.old (insert dialogue count groups.now) }
     {
-        if !(1..=6).contains(&count) || groups.len() != GROUP_LENGTH * count as usize {
+        if !(1..=6).contains(&count) || groups.len() != GROUP_LENGTH * usize::from(count) {
             return Err(Refusal::OutOfRange);
         }
         self.insert(dialogue, groups)
     }
 
+    /// A Reset of which nothing is known but its type.
     fn checked_reset(&mut self, digits: u8, value: u64) -> Result<Answer, Refusal>
         ensures answer { result ≡ answered self.old (reset digits value) }
         ensures after { self.new ≡ after self.old (reset digits value) }
@@ -83,10 +52,10 @@ impl<S: RecordStore<Imsi, Record>> Vlr<S> {
                 auth,
                 msc,
                 area,
-            } => self.access(Imsi::try_from(imsi)?, auth_of(auth)?, msc, area),
+            } => self.access(Imsi::try_from(imsi)?, Auth::try_from(auth)?, msc, area),
             Event::Outgoing { imsi, auth, msc } => self.outgoing(
                 Imsi::try_from(imsi)?,
-                auth_of(auth)?,
+                Auth::try_from(auth)?,
                 msc,
             ),
             Event::Registration {
@@ -94,14 +63,14 @@ impl<S: RecordStore<Imsi, Record>> Vlr<S> {
                 auth,
                 msc,
                 area,
-            } => self.registration(Imsi::try_from(imsi)?, auth_of(auth)?, msc, area),
+            } => self.registration(Imsi::try_from(imsi)?, Auth::try_from(auth)?, msc, area),
             Event::OpenUpdate(imsi) => self.open_update(Imsi::try_from(imsi)?),
             Event::Insert {
                 dialogue,
                 count,
                 groups,
             } => self.checked_insert(dialogue, count, groups),
-            Event::End { dialogue, outcome } => self.end(dialogue, outcome_of(outcome)?),
+            Event::End { dialogue, outcome } => self.end(dialogue, Outcome::try_from(outcome)?),
             Event::Reset { digits, value } => self.checked_reset(digits, value),
             Event::Cancel(imsi) => Ok(self.cancel(Imsi::try_from(imsi)?)),
             Event::Restart => Ok(self.restart()),
@@ -116,20 +85,20 @@ impl<S: RecordStore<Imsi, Record>> Vlr<S> {
         self.act(event).map(Handed::of)
     }
 
-    /// Sends an invoke, and answers 1; or 0, with nothing changed, where no unsent dialogue of its number is open.
-    pub fn send(&mut self, invoke: Invoke) -> u8
+    /// Sends an invoke, and tells whether it went: where no unsent dialogue of its number is open, nothing changes.
+    pub fn send(&mut self, invoke: Invoke) -> bool
         ensures answer { result ≡ spending_answer self.old invoke.dialogue send }
         ensures after { self.new ≡ spending_after self.old invoke.dialogue send }
     {
-        spent(self.table.meet(invoke.spend(), Coming::Send, &[]))
+        self.table.meet(invoke.spend(), Coming::Send).is_ok()
     }
 
-    /// Withdraws an invoke, which closes its dialogue and leaves the record, and answers as sending does.
-    pub fn withdraw(&mut self, invoke: Invoke) -> u8
+    /// Withdraws an invoke, which closes its dialogue and leaves the record, and tells as sending does.
+    pub fn withdraw(&mut self, invoke: Invoke) -> bool
         ensures answer { result ≡ spending_answer self.old invoke.dialogue withdraw }
         ensures after { self.new ≡ spending_after self.old invoke.dialogue withdraw }
     {
-        spent(self.table.meet(invoke.spend(), Coming::Withdraw, &[]))
+        self.table.meet(invoke.spend(), Coming::Withdraw).is_ok()
     }
 
     /// Answers an event and sends the invoke of the dialogue that it opened.
@@ -139,14 +108,14 @@ impl<S: RecordStore<Imsi, Record>> Vlr<S> {
     {
         let Handed { answer, invoke } = self.direct(event)?;
         if let Some(invoke) = invoke {
-            let _ = self.send(invoke);
+            self.send(invoke);
         }
         Ok(answer)
     }
 
-    /// Answers an event in bytes: the answer goes to the front of the area, an invoke is sent at once, and the
-    /// length of the event is told. A refusal leaves register and area as they were.
-    pub fn receive(&mut self, input: &[u8], area: &mut [u8]) -> Result<usize, Refusal>
+    /// Answers an event in bytes: the answer goes to the front of the area, and an invoke is sent at once. A refusal
+    /// leaves register and area as they were.
+    pub fn receive(&mut self, input: &[u8], area: &mut [u8]) -> Result<Received, Refusal>
         ensures answer { result ≡ received self.old input.now area.old }
         ensures after { self.new ≡ received_after self.old input.now area.old }
         ensures area { area.new ≡ received_area self.old input.now area.old }
@@ -154,10 +123,9 @@ impl<S: RecordStore<Imsi, Record>> Vlr<S> {
         if area.len() < ANSWER_LENGTH {
             return Err(Refusal::AreaTooShort);
         }
-        let decoded = decode(input)?;
-        let length = decoded.length;
-        let answer = self.sent(decoded.event)?;
-        answer.write(area)?;
-        Ok(length)
+        let Decoded { event, length } = decode(input)?;
+        let answer = self.sent(event)?;
+        answer.write(area).unwrap();
+        Ok(Received { length, answer })
     }
 }

@@ -20,12 +20,11 @@ pub struct Vlr<S: RecordStore<Imsi, Record>> {
 }
 
 impl<S: RecordStore<Imsi, Record>> Model for Vlr<S> {
-    ghost use Rattle.dialogue.specs.Listed.{listed};
     ghost use Rattle.restoration.specs.State.{State};
 
     ghost Value = { State };
 
-    ghost view = { λ v. record { records = S.entries v.store; room = S.room v.store; dialogues = listed v.table.rows; last = v.table.last; several = v.several } };
+    ghost view = { λ v. record { records = S.entries v.store; room = S.room v.store; dialogues = v.table.by_number; last = v.table.last; several = v.several } };
 }
 
 impl<S: RecordStore<Imsi, Record>> Vlr<S> {
