@@ -1,82 +1,72 @@
 //! Reading a journal's line.
-use crate::call::{Call, Fault, StoreKind};
-use crate::hex::HexReader;
+use crate::call::{Call, Exchanges, Spending, StoreKind, Visitor};
+use crate::fault::Fault;
+use crate::hex::read_bytes;
 use std::alloc::Global;
-use std::str::SplitWhitespace;
+use std::str::{FromStr, SplitWhitespace};
 
 /// No store has more room.
 const MOST_ROOM: usize = 65_536;
 
-/// The bytes that the words write in hexadecimal.
-fn read_bytes(heap: Global, words: SplitWhitespace<'_>) -> Result<Vec<u8>, Fault> {
-    let mut hex = HexReader::new(heap);
-    for word in words {
-        hex.read(word)?;
+impl FromStr for Exchanges {
+    type Err = Fault;
+
+    fn from_str(word: &str) -> Result<Exchanges, Fault> {
+        match word {
+            "one" => Ok(Exchanges::One),
+            "several" => Ok(Exchanges::Several),
+            _ => Err(Fault::Visitor),
+        }
     }
-    hex.finish()
 }
 
-/// The last word, and nothing behind it.
-fn read_number(mut words: SplitWhitespace<'_>) -> Result<u32, Fault> {
-    let Some(word) = words.next() else {
-        return Err(Fault::Dialogue);
+impl FromStr for StoreKind {
+    type Err = Fault;
+
+    fn from_str(word: &str) -> Result<StoreKind, Fault> {
+        match word {
+            "rows" => Ok(StoreKind::Rows),
+            "tree" => Ok(StoreKind::Tree),
+            _ => Err(Fault::Visitor),
+        }
+    }
+}
+
+/// The next word, read; it is the line's fault where there is none or it cannot be read.
+fn next<T: FromStr>(words: &mut SplitWhitespace<'_>, fault: Fault) -> Result<T, Fault>
+where
+    T::Err: Drop,
+{
+    words.next().ok_or(fault)?.parse::<T>().map_err(|_| fault)
+}
+
+/// It is the line's fault where more words follow.
+fn end(mut words: SplitWhitespace<'_>, fault: Fault) -> Result<(), Fault> {
+    match words.next() {
+        Some(_) => Err(fault),
+        None => Ok(()),
+    }
+}
+
+fn read_visitor(mut words: SplitWhitespace<'_>) -> Result<Visitor, Fault> {
+    let visitor = Visitor {
+        exchanges: next(&mut words, Fault::Visitor)?,
+        last: next(&mut words, Fault::Visitor)?,
+        store: next(&mut words, Fault::Visitor)?,
+        room: next(&mut words, Fault::Visitor)?,
     };
-    match (word.parse::<u32>(), words.next()) {
-        (Ok(number), None) => Ok(number),
-        _ => Err(Fault::Dialogue),
-    }
-}
-
-fn read_several(word: Option<&str>) -> Result<bool, Fault> {
-    match word {
-        Some("one") => Ok(false),
-        Some("several") => Ok(true),
-        _ => Err(Fault::Visitor),
-    }
-}
-
-fn read_store(word: Option<&str>) -> Result<StoreKind, Fault> {
-    match word {
-        Some("rows") => Ok(StoreKind::Rows),
-        Some("tree") => Ok(StoreKind::Tree),
-        _ => Err(Fault::Visitor),
-    }
-}
-
-fn read_last(word: Option<&str>) -> Result<u32, Fault> {
-    let Some(word) = word else {
-        return Err(Fault::Visitor);
-    };
-    match word.parse::<u32>() {
-        Ok(last) => Ok(last),
-        Err(_) => Err(Fault::Visitor),
-    }
-}
-
-fn read_room(word: Option<&str>) -> Result<usize, Fault> {
-    let Some(word) = word else {
-        return Err(Fault::Visitor);
-    };
-    match word.parse::<usize>() {
-        Ok(room) if room <= MOST_ROOM => Ok(room),
-        _ => Err(Fault::Visitor),
-    }
-}
-
-fn read_visitor(mut words: SplitWhitespace<'_>) -> Result<Call, Fault> {
-    let several = read_several(words.next())?;
-    let last = read_last(words.next())?;
-    let store = read_store(words.next())?;
-    let room = read_room(words.next())?;
-    if words.next().is_some() {
+    end(words, Fault::Visitor)?;
+    if visitor.room > MOST_ROOM {
         return Err(Fault::Visitor);
     }
-    Ok(Call::Visitor {
-        several,
-        last,
-        store,
-        room,
-    })
+    Ok(visitor)
+}
+
+/// The number of a dialogue, and nothing behind it.
+fn read_dialogue(mut words: SplitWhitespace<'_>) -> Result<u32, Fault> {
+    let dialogue = next(&mut words, Fault::Dialogue)?;
+    end(words, Fault::Dialogue)?;
+    Ok(dialogue)
 }
 
 /// The call that a line asks for; a blank line and one that begins with `#` ask for none.
@@ -89,15 +79,13 @@ pub fn read_line(heap: Global, line: &str) -> Result<Option<Call>, Fault> {
         return Ok(None);
     };
     let call = match name {
-        "visitor" => read_visitor(words)?,
+        "visitor" => Call::Visitor(read_visitor(words)?),
         "event" => Call::Event(read_bytes(heap, words)?),
         "direct" => Call::Direct(read_bytes(heap, words)?),
-        "send" => Call::Send(read_number(words)?),
-        "withdraw" => Call::Withdraw(read_number(words)?),
+        "send" => Call::Spend(Spending::Send, read_dialogue(words)?),
+        "withdraw" => Call::Spend(Spending::Withdraw, read_dialogue(words)?),
         "show" => {
-            if words.next().is_some() {
-                return Err(Fault::Nothing);
-            }
+            end(words, Fault::Nothing)?;
             Call::Show
         }
         _ => return Err(Fault::Call),
