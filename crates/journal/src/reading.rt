@@ -1,4 +1,6 @@
 //! Reading a journal's line.
+ghost use Rattle.journal.specs.Words.{Reads, exchanges_word, store_word};
+
 use crate::call::{Call, Exchanges, Spending, StoreKind, Visitor};
 use crate::fault::Fault;
 use crate::hex::read_bytes;
@@ -11,6 +13,8 @@ const MOST_ROOM: usize = 65_536;
 impl FromStr for Exchanges {
     type Err = Fault;
 
+    ghost from_str_gives = { Reads exchanges_word };
+
     fn from_str(word: &str) -> Result<Exchanges, Fault> {
         match word {
             "one" => Ok(Exchanges::One),
@@ -22,6 +26,8 @@ impl FromStr for Exchanges {
 
 impl FromStr for StoreKind {
     type Err = Fault;
+
+    ghost from_str_gives = { Reads store_word };
 
     fn from_str(word: &str) -> Result<StoreKind, Fault> {
         match word {
