@@ -2,100 +2,38 @@
 
 #![tactic(auto)]
 
-mod register;
+mod lines;
 mod show;
 mod site;
+mod start;
 mod words;
 
-use anyhow::anyhow;
-use journal::{Call, read_line};
-use register::Register;
-use site::Site;
-use std::io::{BufRead, BufReader};
+use journal::Call;
+use lines::Journal;
+use start::Start;
 use std::process::ExitCode;
 
-/// The message that ends the program at a line, with what was expected there.
-fn not_of_the_format(line: u64, expected: &str) -> anyhow::Error {
-    anyhow!("line {line}: {expected}")
-}
-
-/// Puts a new register into the place of the old one, whose invokes are withdrawn.
-fn start(
-    rt: &HostRuntime,
-    site: &mut Option<Site>,
-    line: u64,
-    register: Register,
-) -> anyhow::Result<()> {
-    match site.replace(Site::new(rt.alloc(), register)) {
-        Some(old) => old.close(rt)?,
-        None => {}
-    }
-    println!(rt; "{line} started a visitor register")?;
-    Ok(())
-}
-
-/// Makes a call at the site, which has to have a register.
-fn make(rt: &HostRuntime, site: &mut Option<Site>, line: u64, call: Call) -> anyhow::Result<()> {
-    match site {
-        Some(site) => site.make(rt, line, call),
-        None => Err(not_of_the_format(line, "expected a visitor register first")),
-    }
-}
-
-/// Plays one line.
-fn play_line(
-    rt: &HostRuntime,
-    site: &mut Option<Site>,
-    line: u64,
-    text: &str,
-) -> anyhow::Result<()> {
-    match read_line(rt.alloc(), text) {
-        Ok(None) => Ok(()),
-        Ok(
-            Some(
-                Call::Visitor {
-                    several,
-                    last,
-                    store,
-                    room,
-                },
-            ),
-        ) => {
-            let register = Register::start(rt.alloc(), store, room, several, last)?;
-            start(rt, site, line, register)
-        }
-        Ok(Some(call)) => make(rt, site, line, call),
-        Err(fault) => Err(not_of_the_format(line, fault.words())),
+/// The first call of the journal, if there is one: it has to start a register.
+fn first(journal: &mut Journal) -> anyhow::Result<Option<Start>> {
+    match journal.next().transpose()? {
+        Some((line, Call::Visitor(visitor))) => Ok(Some(Start { line, visitor })),
+        Some((line, _)) => Err(line.fault("expected a visitor register first")),
+        None => Ok(None),
     }
 }
 
 /// Plays the journal, or what comes before the first line that is not of the format.
-fn play_lines(rt: &HostRuntime, site: &mut Option<Site>) -> anyhow::Result<()> {
-    let mut line: u64 = 0;
-    for text in BufReader::new(rt.alloc(), rt.stdin())?.lines(rt.alloc()) {
-        line = line.saturating_add(1);
-        match text {
-            Ok(text) => play_line(rt, site, line, text.as_str())?,
-            Err(_) => return Err(not_of_the_format(line, "expected text")),
-        }
+fn play(rt: HostRuntime) -> anyhow::Result<()> {
+    let mut journal = Journal::read(rt)?;
+    let mut next = first(&mut journal)?;
+    while let Some(start) = next {
+        next = start.play(&mut journal)?;
     }
     Ok(())
 }
 
-/// Plays the journal, and spends at the end what the journal never spent.
-fn play(rt: &HostRuntime) -> anyhow::Result<()> {
-    let mut site = None;
-    let played = play_lines(rt, &mut site);
-    let closed = match site {
-        Some(site) => site.close(rt),
-        None => Ok(()),
-    };
-    played?;
-    closed
-}
-
 fn main(rt: HostRuntime) -> ExitCode {
-    match play(&rt) {
+    match play(rt) {
         Ok(()) => ExitCode::SUCCESS,
         Err(e) => {
             // where nobody reads the message, the status still tells
