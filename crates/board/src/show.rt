@@ -3,7 +3,7 @@ use crate::lines::Line;
 use crate::site::Site;
 use crate::words::OrNone;
 use dialogue::Dialogue;
-use key::{IMSI_LIMIT, Imsi};
+use key::Imsi;
 use restoration::{Place, Record};
 use std::io;
 use std::iter::successors;
@@ -12,7 +12,7 @@ use store::{MOST_ROOM, RecordStore};
 /// No table has more dialogues.
 const MOST_DIALOGUES: usize = 64;
 
-impl<S: RecordStore<Imsi, Record, IMSI_LIMIT>> Site<S> {
+impl<S: RecordStore<Imsi, Record>> Site<S> {
     fn show_records(&self, line: Line) -> io::Result<()> {
         let register = &self.register;
         let first = register.next_subscriber(&None);

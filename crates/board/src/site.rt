@@ -7,7 +7,7 @@ use crate::start::Start;
 use crate::words::Answered;
 use event::{ANSWER_LENGTH, decode};
 use journal::{Call, Spending};
-use key::{IMSI_LIMIT, Imsi, Refusal};
+use key::{Imsi, Refusal};
 use restoration::Record;
 use std::alloc::{AllocFailed, Global};
 use std::io;
@@ -15,7 +15,7 @@ use store::RecordStore;
 use visitor::{Handed, Invoke, Vlr};
 
 /// The invokes stand beside the register that handed them out, and end with it.
-pub struct Site<S: RecordStore<Imsi, Record, IMSI_LIMIT>> {
+pub struct Site<S: RecordStore<Imsi, Record>> {
     pub register: Vlr<S>,
     kept: Vec<Invoke>,
 }
@@ -31,7 +31,7 @@ fn say(line: Line, answered: Result<Answered<'_>, Refusal>) -> io::Result<()> {
     }
 }
 
-impl<S: RecordStore<Imsi, Record, IMSI_LIMIT> + Drop> Site<S> {
+impl<S: RecordStore<Imsi, Record> + Drop> Site<S> {
     /// A site with a new register.
     pub fn new(heap: Global, register: Vlr<S>) -> Site<S> {
         Site {

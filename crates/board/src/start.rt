@@ -4,7 +4,7 @@ ghost use Rattle.board.specs.Reading.{ReadOn};
 use crate::lines::{Journal, Line};
 use crate::site::Site;
 use journal::{Exchanges, StoreKind, Visitor};
-use key::{IMSI_LIMIT, Imsi};
+use key::Imsi;
 use restoration::{Indicator, Record};
 use store::{RecordStore, Row, Rows};
 use tree::{Node, SearchTree};
@@ -38,7 +38,7 @@ impl Start {
     }
 
     /// Plays the journal with a register over a new store, and spends at the end what was kept and never spent.
-    fn play_over<S: RecordStore<Imsi, Record, IMSI_LIMIT> + Drop>(
+    fn play_over<S: RecordStore<Imsi, Record> + Drop>(
         self,
         journal: &mut Journal,
         store: S,

@@ -8,7 +8,7 @@ use Rattle.store.proofs.Maps.{none_from_holds}
 use Rattle.store.proofs.Changes.{holds_cleared}
 use Rattle.event.specs.declared.answer.Answer.{Answer}
 use Rattle.event.specs.Layout.{Event, provide_roaming_number, call_information, short_message_v2, short_message_v1, location_request, access, outgoing, registration, open_update, insert, end, reset, cancel, restart}
-use Rattle.event.specs.Decoding.{Reading, read, refused, decoded}
+use Rattle.event.specs.Decoding.{Reading, decoded}
 use Rattle.dialogue.specs.declared.data.SubscriberData.{SubscriberData}
 use Rattle.dialogue.specs.declared.row.Dialogue.{Dialogue}
 use Rattle.dialogue.specs.Data.{no_data, is_complete}
@@ -99,8 +99,8 @@ sent_records (Ok a) t = by (handed a.opened)
 
 read-records : (s : State) (short : Bool) (r : Reading) → (if_area short s (reading_after s r)).records ≡ if_area short s.records (records_read s r)
 read-records s true r = refl
-read-records s false (read e n) = sent_records (answered s e) (after s e)
-read-records s false (refused x) = refl
+read-records s false (Ok (e, n)) = sent_records (answered s e) (after s e)
+read-records s false (Err x) = refl
 
 pub data_law_lem : DataLaw
 data_law_lem = record {

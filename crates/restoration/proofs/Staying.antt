@@ -6,7 +6,7 @@ use Rattle.store.specs.Model.{at}
 use Rattle.store.proofs.Changes.{at_cleared}
 use Rattle.event.specs.declared.answer.Answer.{Answer}
 use Rattle.event.specs.Layout.{Event, provide_roaming_number, call_information, short_message_v2, short_message_v1, location_request, access, outgoing, registration, open_update, insert, end, reset, cancel, restart}
-use Rattle.event.specs.Decoding.{Reading, read, refused, decoded}
+use Rattle.event.specs.Decoding.{Reading, decoded}
 use Rattle.dialogue.specs.declared.row.Dialogue.{Dialogue}
 use Rattle.dialogue.specs.Dialogues as comes
 use Rattle.restoration.specs.declared.record.Record.{Record}
@@ -69,8 +69,8 @@ module _ {s : State} (sound : Sound s) where
 
 module _ {s : State} (sound : Sound s) where
   reading_sound : (r : Reading) → Sound (reading_after s r)
-  reading_sound (read e n) = sent_sound (event_sound sound e) (answered s e)
-  reading_sound (refused x) = sound
+  reading_sound (Ok (e, n)) = sent_sound (event_sound sound e) (answered s e)
+  reading_sound (Err x) = sound
 
   bytes_sound : (input area : List ℕ) → Sound (received_after s input area)
   bytes_sound input area = by (ltb (length area) 16)

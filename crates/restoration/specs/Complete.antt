@@ -6,7 +6,7 @@ use Rattle.event.specs.declared.answer.Answer.{Answer}
 use Rattle.event.specs.declared.answer.Reply.{Reply}
 use Rattle.event.specs.declared.answer.Reply.TheVariants.{Done, UnidentifiedSubscriber, IllegalSubscriber, SystemFailure, DataMissing, UnexpectedDataValue}
 use Rattle.event.specs.Layout.{Event, provide_roaming_number, call_information, short_message_v2, short_message_v1, location_request, access, outgoing, registration, open_update, insert, end, reset, cancel, restart}
-use Rattle.event.specs.Decoding.{Reading, read, refused, decoded}
+use Rattle.event.specs.Decoding.{Reading, decoded}
 use Rattle.dialogue.specs.declared.row.Dialogue.{Dialogue}
 use Rattle.dialogue.specs.Dialogues.{Comes}
 use Rattle.dialogue.specs.Data.{no_data, is_complete}
@@ -58,8 +58,8 @@ good_end s restart k = false
 
 -- the records after the event that bytes are read as, if they are one
 abbrev pub records_read : State → Reading → List (ℕ × Record)
-records_read s (read e n) = (after s e).records
-records_read s (refused x) = s.records
+records_read s (Ok (e, n)) = (after s e).records
+records_read s (Err x) = s.records
 
 pub record DataLaw : Type 0 where
   -- a record has A and B after an event exactly when this was a good end for it, or it had them before

@@ -4,7 +4,7 @@ use Rattle.key.specs.declared.refusal.Refusal.{Refusal}
 use Rattle.key.specs.declared.refusal.Refusal.TheVariants.{AreaTooShort}
 use Rattle.event.specs.declared.answer.Answer.{Answer}
 use Rattle.event.specs.Answers.{written_into}
-use Rattle.event.specs.Decoding.{Reading, read, refused, decoded}
+use Rattle.event.specs.Decoding.{Reading, decoded}
 use Rattle.restoration.specs.declared.received.Received.{Received}
 use Rattle.restoration.specs.State.{State}
 use Rattle.restoration.specs.Steps.{answered, after, sent_out}
@@ -16,12 +16,12 @@ with_length n (Err e) = Err e
 
 -- by what the bytes are read as
 abbrev pub reading_answer : State → Reading → Result Received Refusal
-reading_answer s (read e n) = with_length n (answered s e)
-reading_answer s (refused x) = Err x
+reading_answer s (Ok (e, n)) = with_length n (answered s e)
+reading_answer s (Err x) = Err x
 
 abbrev pub reading_after : State → Reading → State
-reading_after s (read e n) = sent_out (answered s e) (after s e)
-reading_after s (refused x) = s
+reading_after s (Ok (e, n)) = sent_out (answered s e) (after s e)
+reading_after s (Err x) = s
 
 -- the area takes the answer, if there is one
 abbrev pub answer_in : List ℕ → Result Answer Refusal → List ℕ
@@ -29,8 +29,8 @@ answer_in area (Ok a) = written_into area a
 answer_in area (Err e) = area
 
 abbrev pub reading_area : State → Reading → List ℕ → List ℕ
-reading_area s (read e n) area = answer_in area (answered s e)
-reading_area s (refused x) area = area
+reading_area s (Ok (e, n)) area = answer_in area (answered s e)
+reading_area s (Err x) area = area
 
 -- an area that is too short is refused before anything is read
 abbrev pub if_area : {A : Type 0} → Bool → A → A → A
