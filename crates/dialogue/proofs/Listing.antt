@@ -3,11 +3,12 @@ use Rattle.std.proofs.Common.{◌≡◌, ℕ, zero, suc, ◌<◌, ◌≤◌, tru
 use Rattle.std.proofs.lemmas.Bool.{and_parts, cases_Bool, both_ways, not-true, eqb-true}
 use Rattle.store.specs.Model.{keys, rises, holds, with_entry, without}
 use Rattle.store.proofs.Maps.{rises_with, with_with, with_again, holds_with_other, holds_with_same, length_with_new}
-use Rattle.event.specs.declared.answer.Kind.TheVariants.{RestoreData}
+use Rattle.event.specs.declared.answer.Kind.{Kind}
+use Rattle.event.specs.declared.answer.Kind.TheVariants.{RestoreData, UpdateLocation, StandAlone}
 use Rattle.dialogue.specs.declared.row.Dialogue.{Dialogue}
 use Rattle.dialogue.specs.declared.row.Stage.TheVariants.{Gone}
 use Rattle.dialogue.specs.Data.{no_data}
-use Rattle.dialogue.specs.Dialogues.{is_gone, has_number}
+use Rattle.dialogue.specs.Dialogues.{is_gone, has_number, first_stage}
 use Rattle.dialogue.specs.Listed.{listed, Numbered, kept_open}
 use Rattle.dialogue.proofs.Dropped.{without_with_new, without_with_other}
 
@@ -174,3 +175,9 @@ module _ (d : Dialogue) (rs : List Dialogue) (last i : ℕ) (sound : Numbered rs
         | inl t ↦ numbered_unset rs last i d t sound
         | inr f ↦ numbered_change d f rs last i sound within live number imsi
       ]
+
+-- a dialogue opens as one that is not gone
+pub opens_live : (kind : Kind) → is_gone (first_stage kind) ≡ false
+opens_live RestoreData = refl
+opens_live UpdateLocation = refl
+opens_live StandAlone = refl

@@ -1,5 +1,6 @@
 -- What a plan opens: a dialogue of a kind that is not open yet, for a subscriber that has a record then. Assumes nothing.
 use Rattle.std.proofs.Common.{◌≡◌, ℕ, Bool, true, false, ◌||◌, Some, None, Option, sym, refl, ap, ◌∙◌}
+use Rattle.std.proofs.lemmas.Option.{none-some, same_Some}
 use Rattle.store.specs.Model.{holds}
 use Rattle.store.proofs.Maps.{holds_from_some, holds_with_same}
 use Rattle.event.specs.declared.answer.Kind.{Kind}
@@ -16,7 +17,6 @@ use Rattle.restoration.specs.Records.{is_unconfirmed, or_made, only_made, contac
 use Rattle.restoration.specs.Plans.{reply_only, unless_open, roaming_number_plan, contact_plan, at_place, moved_to, access_plan, outgoing_with, outgoing_plan, open_update, update_plan}
 use Rattle.restoration.specs.State.{State}
 use Rattle.restoration.specs.Steps.{keep, found, busy, provide, accessed, went_out, registered, updating}
-use Rattle.restoration.proofs.Parts.{some-none, some_one}
 
 -- a dialogue that is opened is the first of its kind, on a record
 pub record Fair (s : State) (k : ℕ) (p : Plan) (kind : Kind) : Type 0 where
@@ -25,9 +25,9 @@ pub record Fair (s : State) (k : ℕ) (p : Plan) (kind : Kind) : Type 0 where
 
 -- the kind is opened only where it is not busy
 opened_so : (wanted busy : Bool) (kind other : Kind) → unless_open wanted busy kind ≡ Some other → (busy ≡ false) × (kind ≡ other)
-opened_so true true kind other h = absurd (some-none None other h refl)
-opened_so true false kind other h = (refl, some_one (Some kind) kind other refl h)
-opened_so false busy kind other h = absurd (some-none None other h refl)
+opened_so true true kind other h = absurd (none-some other h)
+opened_so true false kind other h = (refl, same_Some kind other h)
+opened_so false busy kind other h = absurd (none-some other h)
 
 module _ (s : State) (k : ℕ) where
   abbrev pub OpensFairly : Plan → Type 0
@@ -41,7 +41,7 @@ module _ (s : State) (k : ℕ) where
 
   -- a plan that opens nothing
   shut : (p : Plan) → p.opens ≡ None → OpensFairly p
-  shut p off kind h = absurd (some-none p.opens kind h off)
+  shut p off kind h = absurd (none-some kind (sym off ∙ h))
 
   pub fair_provide : OpensFairly (provide s k)
   fair_provide = go (found s k) refl
@@ -79,8 +79,8 @@ module _ (s : State) (k : ℕ) where
   fair_updating = go (found s k) refl
     where
       known : (b : Bool) (v : Record) → found s k ≡ Some v → busy s k StandAlone ≡ b → OpensFairly (open_update b)
-      known true v is e other h = absurd (some-none None other h refl)
-      known false v is e other h = record { first = ap (busy s k) (sym (some_one (Some StandAlone) StandAlone other refl h)) ∙ e; on_record = holds_from_some s.records k v is }
+      known true v is e other h = absurd (none-some other h)
+      known false v is e other h = record { first = ap (busy s k) (sym (same_Some StandAlone other h)) ∙ e; on_record = holds_from_some s.records k v is }
 
       go : (old : Option Record) → found s k ≡ old → OpensFairly (update_plan old (busy s k StandAlone))
       go None is = shut (reply_only UnidentifiedSubscriber) refl

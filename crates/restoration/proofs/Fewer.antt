@@ -1,5 +1,6 @@
 -- A register stays sound where no dialogue is opened: each that is open then was open before. Assumes nothing.
 use Rattle.std.proofs.Common.{◌≡◌, ℕ, ◌≤◌, Bool, true, false, cond, [], length, Some, None, Ok, Err, Option, Result, sym, refl, ap, ◌∙◌, inl, inr, arith}
+use Rattle.std.proofs.lemmas.Option.{none-some, same_Some}
 use Rattle.std.proofs.lemmas.Bool.{cases_eq}
 use Rattle.key.specs.declared.refusal.Refusal.{Refusal}
 use Rattle.store.specs.Model.{keys, rises, at, holds, with_entry, without, only}
@@ -11,7 +12,7 @@ use Rattle.dialogue.specs.Dialogues.{Comes, is_gone, outcome, dialogue_after}
 use Rattle.dialogue.specs.Listed.{Open, unless_refused, kept_open, met_by, met_on}
 use Rattle.restoration.specs.State.{State}
 use Rattle.restoration.specs.Sound.{Sound}
-use Rattle.restoration.proofs.Parts.{some-none, some_one, without_shorter, rises-only, length-only, at_only, none-rises}
+use Rattle.restoration.proofs.Parts.{without_shorter, rises-only, length-only, at_only, none-rises}
 
 -- d is still the dialogue c
 pub record Still (c d : Dialogue) : Type 0 where
@@ -51,7 +52,7 @@ module _ {s : State} (sound : Sound s) where
 
   pub none_stays : Fewer s.dialogues []
   unfolding at
-  none_stays = record { rise = none-rises Dialogue; short = omega arith; was = λ n d h. absurd (some-none None d h refl) }
+  none_stays = record { rise = none-rises Dialogue; short = omega arith; was = λ n d h. absurd (none-some d h) }
 
   pub one_less : (n : ℕ) → Fewer s.dialogues (without s.dialogues n)
   one_less n = record { rise = rises-without s.dialogues n sound.dialogues_rise; short = without_shorter s.dialogues n; was = before }
@@ -59,7 +60,7 @@ module _ {s : State} (sound : Sound s) where
       before : (m : ℕ) (d : Dialogue) → at (without s.dialogues n) m ≡ Some d → (c : Dialogue) × (at s.dialogues m ≡ Some c) × Still c d
       before m d h =
           elim (cases_eq m n) [
-            | inl e ↦ absurd (some-none (at (without s.dialogues n) m) d h (ap (at (without s.dialogues n)) e ∙ at-without_same s.dialogues n sound.dialogues_rise))
+            | inl e ↦ absurd (none-some d (sym (ap (at (without s.dialogues n)) e ∙ at-without_same s.dialogues n sound.dialogues_rise) ∙ h))
             | inr ne ↦ let g = sym (at-without_other s.dialogues n m ne) ∙ h in (d, g, same m d g)
           ]
 
@@ -73,7 +74,7 @@ module _ {s : State} (sound : Sound s) where
       before m x h =
           elim (cases_eq m n) [
             | inl e ↦
-                let is_x : d ≡ x = some_one (at (with_entry s.dialogues n d) n) d x (at_with_same s.dialogues n d) (ap (at (with_entry s.dialogues n d)) (sym e) ∙ h) in
+                let is_x : d ≡ x = same_Some d x (sym (at_with_same s.dialogues n d) ∙ ap (at (with_entry s.dialogues n d)) (sym e) ∙ h) in
                 (c, ap (at s.dialogues) e ∙ is, rw is_x at still)
             | inr ne ↦ let g = sym (at_with_other s.dialogues n m d ne) ∙ h in (x, g, same m x g)
           ]

@@ -1,5 +1,6 @@
 -- A register stays sound where dialogues end, where records are cancelled or reset, and at a restart. Assumes nothing.
-use Rattle.std.proofs.Common.{◌≡◌, ℕ, Bool, true, false, cond, eqb, ltb, [], length, Some, None, Ok, Err, Option, Result, refl, ap, ◌∙◌, arith, eq-eqb}
+use Rattle.std.proofs.Common.{sym, ◌≡◌, ℕ, Bool, true, false, cond, eqb, ltb, length, Some, None, Ok, Err, Option, Result, refl, ap, ◌∙◌, arith, eq-eqb}
+use Rattle.std.proofs.lemmas.Option.{none-some}
 use Rattle.std.proofs.lemmas.Bool.{both_ways, not-true, or_left}
 use Rattle.key.specs.declared.refusal.Refusal.{Refusal}
 use Rattle.store.specs.Model.{rises, at, holds, without, only}
@@ -16,7 +17,7 @@ use Rattle.restoration.specs.declared.updates.Outcome.{Outcome}
 use Rattle.restoration.specs.State.{State}
 use Rattle.restoration.specs.Sound.{Sound}
 use Rattle.restoration.specs.Steps.{with_dialogues, keep, has_room, end_of, end_left, end_on, end_after, reset_one, reset_after, cancel_after, restart_after}
-use Rattle.restoration.proofs.Parts.{some-none, none-rises, without_shorter, keys-each, length-each, holds-each, at_only}
+use Rattle.restoration.proofs.Parts.{none-rises, without_shorter, keys-each, length-each, holds-each, at_only}
 use Rattle.restoration.proofs.Fewer.{fewer_sound, still_on_record, all_stay, none_stays, one_less, some_stay, meeting}
 use Rattle.restoration.proofs.Opening.{keep-rises, keep-holds, keep_fits}
 
@@ -74,4 +75,4 @@ module _ {s : State} (sound : Sound s) where
       by false = sound
 
   pub restart_sound : Sound (restart_after s)
-  restart_sound = fewer_sound sound (restart_after s) (none-rises Record) (omega arith) (none_stays sound) refl (λ n d h. absurd (some-none (at [] n) d h (at_cleared Dialogue n)))
+  restart_sound = fewer_sound sound (restart_after s) (none-rises Record) (omega arith) (none_stays sound) refl (λ n d h. absurd (none-some d (sym (at_cleared Dialogue n) ∙ h)))

@@ -1,5 +1,6 @@
 -- A register stays sound where a plan is carried out. Assumes nothing.
 use Rattle.std.proofs.Common.{◌≡◌, ℕ, ◌+◌, ◌<◌, ◌≤◌, Bool, true, false, cond, eqb, ltb, ◌⊎◌, List, length, Some, None, Option, sym, refl, ap, ◌∙◌, inl, inr, arith, ltb-true, eq-eqb}
+use Rattle.std.proofs.lemmas.Option.{none-some, same_Some}
 use Rattle.std.proofs.lemmas.Bool.{cases_Bool, cases_eq, and_from, both_ways}
 use Rattle.key.specs.declared.refusal.Refusal.{Refusal}
 use Rattle.key.specs.declared.refusal.Refusal.TheVariants.{StoreFull, TooManyDialogues}
@@ -9,14 +10,15 @@ use Rattle.store.proofs.Changes.{with_within}
 use Rattle.event.specs.declared.answer.Kind.{Kind}
 use Rattle.event.specs.declared.answer.Kind.TheVariants.{RestoreData, UpdateLocation, StandAlone}
 use Rattle.dialogue.specs.declared.row.Dialogue.{Dialogue}
-use Rattle.dialogue.specs.Dialogues.{is_gone, first_stage, same_kind, opening}
+use Rattle.dialogue.specs.Dialogues.{is_gone, same_kind, opening}
 use Rattle.dialogue.specs.Listed.{on, barred}
+use Rattle.dialogue.proofs.Listing.{opens_live}
 use Rattle.restoration.specs.declared.record.Record.{Record}
 use Rattle.restoration.specs.declared.plan.Plan.{Plan}
 use Rattle.restoration.specs.State.{State}
 use Rattle.restoration.specs.Sound.{Sound}
 use Rattle.restoration.specs.Steps.{keep, has_room, begun, last_after, no_dialogue, same_if_refused, done, planned_after, busy}
-use Rattle.restoration.proofs.Parts.{some-none, some_one, none_such}
+use Rattle.restoration.proofs.Parts.{none_such}
 use Rattle.restoration.proofs.Fewer.{fewer_sound, still_on_record, all_stay}
 use Rattle.restoration.proofs.Fair.{OpensFairly}
 
@@ -37,11 +39,6 @@ pub keep_fits : (s : State) (k : ℕ) (kept : Option Record) → Sound s → has
 keep_fits s k None sound t = sound.fitting
 keep_fits s k (Some v) sound t = with_within s.room s.records k v sound.records_rise sound.fitting t
 
-starts_open : (kind : Kind) → is_gone (first_stage kind) ≡ false
-starts_open RestoreData = refl
-starts_open UpdateLocation = refl
-starts_open StandAlone = refl
-
 kind_same : (a b : Kind) → a ≡ b → same_kind a b ≡ true
 kind_same RestoreData b e = rw (sym e)
 kind_same UpdateLocation b e = rw (sym e)
@@ -52,7 +49,7 @@ room_left : (count last : ℕ) → barred count last ≡ None → count < 64
 room_left count last h =
     elim (cases_Bool (ltb count 64)) [
       | inl t ↦ ltb-true count 64 t
-      | inr f ↦ absurd (some-none (barred count last) TooManyDialogues (rw f) h)
+      | inr f ↦ absurd (none-some TooManyDialogues (sym h ∙ rw f))
     ]
 
 module _ {s : State} (sound : Sound s) (k : ℕ) (kind : Kind) where
@@ -63,7 +60,7 @@ module _ {s : State} (sound : Sound s) (k : ℕ) (kind : Kind) where
   told : (n : ℕ) (d : Dialogue) → at (with_entry s.dialogues (s.last + 1) new) n ≡ Some d → ((n ≡ s.last + 1) × (new ≡ d)) ⊎ (at s.dialogues n ≡ Some d)
   told n d h =
       elim (cases_eq n (s.last + 1)) [
-        | inl e ↦ inl (e, some_one (at (with_entry s.dialogues (s.last + 1) new) (s.last + 1)) new d (at_with_same s.dialogues (s.last + 1) new) (ap (at (with_entry s.dialogues (s.last + 1) new)) (sym e) ∙ h))
+        | inl e ↦ inl (e, same_Some new d (sym (at_with_same s.dialogues (s.last + 1) new) ∙ ap (at (with_entry s.dialogues (s.last + 1) new)) (sym e) ∙ h))
         | inr ne ↦ inr (sym (at_with_other s.dialogues (s.last + 1) n new ne) ∙ h)
       ]
 
@@ -88,7 +85,7 @@ module _ {s : State} (sound : Sound s) (k : ℕ) (kind : Kind) where
     few = omega (arith, length_with_new s.dialogues (s.last + 1) new unused);
     its_number = λ n d h. elim (told n d h) [ inl e ↦ ap (λ x. x.number) (sym e.1) ∙ sym e.0 | inr g ↦ sound.its_number n d g ];
     numbered = λ n d h. elim (told n d h) [ inl e ↦ let l = e.0 in omega arith | inr g ↦ let l = sound.numbered n d g in omega arith ];
-    still_open = λ n d h. elim (told n d h) [ inl e ↦ ap (λ x. is_gone x.stage) (sym e.1) ∙ starts_open kind | inr g ↦ sound.still_open n d g ];
+    still_open = λ n d h. elim (told n d h) [ inl e ↦ ap (λ x. is_gone x.stage) (sym e.1) ∙ opens_live kind | inr g ↦ sound.still_open n d g ];
     on_record = λ n d h. elim (told n d h) [ inl e ↦ ap (λ x. holds es x.imsi) (sym e.1) ∙ stands | inr g ↦ stay d.imsi (sound.on_record n d g) ];
     one_of_a_kind = λ m n c d g h i t. elim (told m c g) [
       | inl a ↦ elim (told n d h) [

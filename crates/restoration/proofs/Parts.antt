@@ -1,15 +1,10 @@
 -- Look-up, order and count where each entry of a map is changed, or only some are left. Assumes nothing.
-use Rattle.std.proofs.Common.{◌≡◌, ℕ, suc, ◌<◌, ◌≤◌, Bool, true, false, ◌||◌, eqb, ltb, List, [], ◌∷◌, length, Some, None, Option, sym, refl, ap, ◌∙◌, inl, inr, arith, ltb-true}
+use Rattle.std.proofs.Common.{◌≡◌, ℕ, suc, ◌<◌, ◌≤◌, Bool, true, false, ◌||◌, eqb, ltb, List, [], ◌∷◌, length, Some, sym, refl, ap, ◌∙◌, inl, inr, arith, ltb-true}
+use Rattle.std.proofs.lemmas.Option.{none-some}
 use Rattle.std.proofs.lemmas.Bool.{cases_Bool, and_parts, and_from, or_parts, cond_both, eqb-true}
 use Rattle.store.specs.Model.{keys, climbs, rises, at, holds, without, any, only, each}
 use Rattle.store.proofs.Maps.{rises_tail, climbs_weaker, at_miss, above-climbs}
 use Rattle.store.proofs.Changes.{length_without, length-without_known}
-
-pub some-none : {A : Type 0} (o : Option A) (x : A) → o ≡ Some x → o ≡ None → ⊥
-some-none o x p q = let z : ◌≡◌ {A = ℕ} 0 1 = cc in omega arith
-
-pub some_one : {A : Type 0} (o : Option A) (x y : A) → o ≡ Some x → o ≡ Some y → x ≡ y
-some_one o x y p q = cc
 
 -- one entry less
 pub without_shorter : {V : Type 0} (es : List (ℕ × V)) (k : ℕ) → length (without es k) ≤ length es
@@ -56,7 +51,7 @@ length-only p (e ∷ es) = let ih = length-only p es in cond_both (p e) (e ∷ o
 
 pub at_only : {V : Type 0} (p : ℕ × V → Bool) (es : List (ℕ × V)) → rises (keys es) ≡ true → (k : ℕ) (v : V) → at (only p es) k ≡ Some v → (at es k ≡ Some v) × (p (k, v) ≡ true)
 unfolding at only rises
-at_only p [] up k v h = absurd (some-none None v h refl)
+at_only p [] up k v h = absurd (none-some v h)
 at_only p (e ∷ es) up k v h =
     elim (cases_Bool (p e)) [
       | inl t ↦ left t (rw t at h) (at_only p es (rises_tail e.0 (keys es) up) k v)
@@ -77,14 +72,14 @@ at_only p (e ∷ es) up k v h =
     passed : p e ≡ false → (at es k ≡ Some v) × (p (k, v) ≡ true) → (at (e ∷ es) k ≡ Some v) × (p (k, v) ≡ true)
     passed f r =
         elim (cases_Bool (eqb e.0 k)) [
-          | inl s ↦ absurd (some-none (at es k) v r.0 (at_miss k es (rw (eqb-true e.0 k s) at (above-climbs e.0 es up))))
+          | inl s ↦ absurd (none-some v (sym (at_miss k es (rw (eqb-true e.0 k s) at (above-climbs e.0 es up))) ∙ r.0))
           | inr u ↦ (rw u r.0, r.1)
         ]
 
 -- where no entry is such, none that is found is
 pub none_such : {V : Type 0} (p : ℕ × V → Bool) (es : List (ℕ × V)) → any p es ≡ false → (k : ℕ) (v : V) → at es k ≡ Some v → p (k, v) ≡ false
 unfolding any at
-none_such p [] h k v here = absurd (some-none None v here refl)
+none_such p [] h k v here = absurd (none-some v here)
 none_such p (e ∷ es) h k v here =
     let q = or_parts (p e) (any p es) h in
     elim (cases_Bool (eqb e.0 k)) [

@@ -1,5 +1,6 @@
 -- A register is sound from its start on, whatever comes. Assumes nothing.
-use Rattle.std.proofs.Common.{◌≡◌, ℕ, Bool, true, false, ltb, List, [], length, Some, None, Ok, Err, Option, Result, arith}
+use Rattle.std.proofs.Common.{sym, ◌∙◌, ◌≡◌, ℕ, Bool, true, false, ltb, List, [], length, Some, None, Ok, Err, Option, Result, arith}
+use Rattle.std.proofs.lemmas.Option.{none-some}
 use Rattle.key.specs.declared.refusal.Refusal.{Refusal}
 use Rattle.key.specs.Figures.{is_hlr_id}
 use Rattle.store.specs.Model.{at}
@@ -15,7 +16,7 @@ use Rattle.restoration.specs.Numbers.{auth_of, outcome_of}
 use Rattle.restoration.specs.Steps.{after, answered, same_unless, planned_after, provide, accessed, went_out, registered, updating, insert_after, end_after, reset_after, cancel_after, is_imsi, is_contact, is_message, handed, sent_if, sent_out}
 use Rattle.restoration.specs.Received.{if_area, reading_after, received_after}
 use Rattle.restoration.specs.Sound.{Sound, StaysSound}
-use Rattle.restoration.proofs.Parts.{some-none, none-rises}
+use Rattle.restoration.proofs.Parts.{none-rises}
 use Rattle.restoration.proofs.Fair.{fair_provide, fair_accessed, fair_went_out, fair_registered, fair_updating}
 use Rattle.restoration.proofs.Opening.{planned_sound}
 use Rattle.restoration.proofs.Leaving.{met_sound, end_sound, reset_sound, cancel_sound, restart_sound}
@@ -34,7 +35,7 @@ start_sound room last several = record {
 }
   where
     none : (n : ℕ) (d : Dialogue) → at [] n ≡ Some d → ⊥
-    none n d h = some-none (at [] n) d h (at_cleared Dialogue n)
+    none n d h = none-some d (sym (at_cleared Dialogue n) ∙ h)
 
 module _ {s : State} (sound : Sound s) where
   -- operands out of range change nothing

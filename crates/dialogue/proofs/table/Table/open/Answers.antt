@@ -1,20 +1,13 @@
-use Rattle.std.proofs.Common.{◌≡◌, ℕ, ◌+◌, ◌<◌, ◌≤◌, false, length, None, Some, refl, sym, ap, ◌∙◌, arith, length-set, le-ltb, lt-ltb}
+use Rattle.std.proofs.Common.{◌≡◌, ℕ, ◌+◌, ◌<◌, ◌≤◌, length, None, Some, refl, sym, ap, ◌∙◌, arith, length-set, le-ltb, lt-ltb}
 use Rattle.std.proofs.lemmas.Result.{err_from_is_err_and}
 use Rattle.key.specs.declared.refusal.Refusal.TheVariants.{NumbersUsedUp}
-use Rattle.event.specs.declared.answer.Kind.{Kind}
-use Rattle.event.specs.declared.answer.Kind.TheVariants.{RestoreData, UpdateLocation, StandAlone}
 use Rattle.store.specs.Model.{with_entry}
 use Rattle.dialogue.specs.declared.row.Dialogue.{Dialogue}
-use Rattle.dialogue.specs.Dialogues.{is_gone, first_stage, opening}
+use Rattle.dialogue.specs.Dialogues.{is_gone, opening}
 use Rattle.dialogue.specs.Listed.{Dialogues, listed, barred, with_opened}
-use Rattle.dialogue.proofs.Listing.{free_row, numbered-set, listed-set, above, fewer}
+use Rattle.dialogue.proofs.Listing.{free_row, opens_live, numbered-set, listed-set, above, fewer}
 use Rattle.dialogue.proofs.Walks.{full}
 use Rattle.dialogue.proofs.table.Table.open.Goals as goal
-
-opens_live : (kind : Kind) → is_gone (first_stage kind) ≡ false
-opens_live RestoreData = refl
-opens_live UpdateLocation = refl
-opens_live StandAlone = refl
 
 used_up : (count last : ℕ) → count < 64 → 4294967295 ≤ last → barred count last ≡ Some NumbersUsedUp
 used_up count last few all = rw (lt-ltb count 64 few, le-ltb last 4294967295 all)
