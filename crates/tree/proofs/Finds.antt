@@ -16,7 +16,7 @@ use Rattle.tree.proofs.Maps.{holds-some}
 use Rattle.tree.proofs.Entries.{yes_eq, get}
 use Rattle.tree.proofs.NewKey.{the_tree, get_tree}
 use Rattle.tree.proofs.Removal.{topped, val_is_end, ready}
-use Rattle.tree.proofs.Sealed.{known}
+use Rattle.tree.proofs.Sealed.{known, short}
 use Rattle.tree.proofs.Trees.{val_none}
 
 module _ {V : Type 0} where
@@ -54,20 +54,17 @@ module _ {K V : Type 0} {key : Ghosts K} (s : SearchTree K V key) (q : ℕ) wher
   abbrev es : List (ℕ × V)
   es = stored s.nodes.items s.head
 
-  short : q < key.LIMIT → q < 2 ^ s.head.width.bits
-  short lt = omega (arith, (known s).digits.suffice, lt)
-
   pub missing_none : (under : Option Link) → Missing key.LIMIT s.nodes.items s.head q under → at es q ≡ None
-  missing_none under m = find_none s.nodes.items s.head (known s).wf q (short m.below) m.at-is
+  missing_none under m = find_none s.nodes.items s.head (known s).wf q (short s q m.below) m.at-is
 
   pub held_within : (p : Place) → Held key.LIMIT s.nodes.items s.head q p → p.at < length s.nodes.items
   held_within p m = (ready s.nodes.items s.head (known s).wf q p.at m.at-is).within
 
   pub held_some : (p : Place) (n : Node V) → Held key.LIMIT s.nodes.items s.head q p → slice_get s.nodes.items p.at ≡ Some n → at es q ≡ Some n.«record»
-  held_some p n m at = find_some s.nodes.items s.head (known s).wf q p.at n (short m.below) m.at-is at
+  held_some p n m at = find_some s.nodes.items s.head (known s).wf q p.at n (short s q m.below) m.at-is at
 
   pub held-holds : (p : Place) → Held key.LIMIT s.nodes.items s.head q p → holds es q ≡ true
-  held-holds p m = found-holds s.nodes.items s.head (known s).wf q p.at (short m.below) m.at-is
+  held-holds p m = found-holds s.nodes.items s.head (known s).wf q p.at (short s q m.below) m.at-is
 
   -- the same of the walk's answer
   pub sought_none : (r : Result Place (Option Link)) → Sought key.LIMIT s.nodes.items s.head q r → result_ok r ≡ None → at es q ≡ None

@@ -1,5 +1,5 @@
 -- What a method of the tree leaves of it, once it has written the nodes that it lent. Assumes nothing.
-use Rattle.std.proofs.Common.{◌≡◌, ℕ, ◌^◌, ◌<◌, List, length, Some, Option, Vec, suc, sym, refl, ap, ◌∙◌, subst, arith}
+use Rattle.std.proofs.Common.{◌≡◌, ℕ, List, length, Some, Option, Vec, suc, sym, refl, ap, ◌∙◌, subst, arith}
 use Rattle.std.specs.Vec.{with_items}
 use Rattle.std.proofs.lemmas.List.{with_items_is}
 use Rattle.key.specs.declared.identity.Key.{Ghosts}
@@ -19,7 +19,7 @@ use Rattle.tree.proofs.Keeps.{counted, after_put, after-del}
 use Rattle.tree.proofs.NewKey.{put_new_lem}
 use Rattle.tree.proofs.OldKey.{again}
 use Rattle.tree.proofs.Removal.{taken}
-use Rattle.tree.proofs.Sealed.{known}
+use Rattle.tree.proofs.Sealed.{known, short}
 
 -- the tree of those nodes and that head, with its entries
 pub record Left {V Z : Type 0} (limit : ℕ) (v : Vec (Node V) Z) (ws : List (Node V)) (k : Head) (es : List (ℕ × V)) : Type 0 where
@@ -37,21 +37,18 @@ left limit v ws k es len u e =
     }
 
 module _ {K V : Type 0} {key : Ghosts K} (s : SearchTree K V key) (ns ws : List (Node V)) (was : ns ≡ s.nodes.items) (len : length ws ≡ length ns) where
-  short : (q : ℕ) → q < key.LIMIT → q < 2 ^ s.head.width.bits
-  short q lt = omega (arith, (known s).digits.suffice, lt)
-
   pub left_new : (k : Head) (sp : Spare) (under : Option Link) (q n : ℕ) (w : V) → q ≡ n → k ≡ with_spare s.head sp under → SpareNode s.nodes.items s.head sp → Missing key.LIMIT s.nodes.items s.head n under → Attached ns ws q w sp.at under → Left key.LIMIT s.nodes ws k (with_entry (stored s.nodes.items s.head) n w)
   left_new k sp under q n w num e kp m hu =
       let u = known s in
       let hu' : Attached s.nodes.items ws n w sp.at under = subst (λ zs. Attached zs ws n w sp.at under) was (subst (λ x. Attached ns ws x w sp.at under) num hu) in
-      let a = put_new_lem s.nodes.items ws s.head k u.wf n w sp kp under (short n m.below) m.at-is m.under_is hu' (len ∙ ap length was)
+      let a = put_new_lem s.nodes.items ws s.head k u.wf n w sp kp under (short s n m.below) m.at-is m.under_is hu' (len ∙ ap length was)
       (ap (λ (x : Head). x.root) e) (ap (λ (x : Head). x.free) e) (ap (λ (x : Head). x.fresh) e) (ap (λ (x : Head). x.count) e) (ap (λ (x : Head). x.width) e) in
       left key.LIMIT s.nodes ws k _ (len ∙ ap length was) (after_put key.LIMIT s.nodes.items ws s.head k n w u a.wf a.entries_are (ap (λ (x : Head). x.width) e) m.below) a.entries_are
 
   pub left_renewed : (p : Place) (n : ℕ) (w : V) → Held key.LIMIT s.nodes.items s.head n p → Renewed ns ws p.at w → Left key.LIMIT s.nodes ws s.head (with_entry (stored s.nodes.items s.head) n w)
   left_renewed p n w m re =
       let u = known s in
-      let a = again s.nodes.items ws s.head u.wf n p.at w (short n m.below) m.at-is (subst (λ zs. Renewed zs ws p.at w) was re) (len ∙ ap length was) in
+      let a = again s.nodes.items ws s.head u.wf n p.at w (short s n m.below) m.at-is (subst (λ zs. Renewed zs ws p.at w) was re) (len ∙ ap length was) in
       left key.LIMIT s.nodes ws s.head _ (len ∙ ap length was) (after_put key.LIMIT s.nodes.items ws s.head s.head n w u a.wf a.entries_are refl m.below) a.entries_are
 
   pub left-out : (k : Head) (p tip : Place) (n : ℕ) → k ≡ without_tip s.head tip → Held key.LIMIT s.nodes.items s.head n p → Bottom (tree_below (suc s.head.width.bits) s.nodes.items (Some p.at)) p.under tip.at tip.under → TakenOut ns ws p.at tip s.head.free
@@ -59,6 +56,6 @@ module _ {K V : Type 0} {key : Ghosts K} (s : SearchTree K V key) (ns ws : List 
   left-out k p tip n e m bo t =
       let u = known s in
       let t' = subst (λ zs. TakenOut zs ws p.at tip s.head.free) was t in
-      let a = taken s.nodes.items t'.filled t'.cut ws s.head k u.wf n p.at tip.at p.under tip.under (short n m.below) m.at-is m.under_is bo t'.promoted t'.relinked t'.released (len ∙ ap length was)
+      let a = taken s.nodes.items t'.filled t'.cut ws s.head k u.wf n p.at tip.at p.under tip.under (short s n m.below) m.at-is m.under_is bo t'.promoted t'.relinked t'.released (len ∙ ap length was)
       (ap (λ (x : Head). x.root) e) (ap (λ (x : Head). x.free) e) (ap (λ (x : Head). x.fresh) e) (ap (λ (x : Head). x.count) e) (ap (λ (x : Head). x.width) e) in
       left key.LIMIT s.nodes ws k _ (len ∙ ap length was) (after-del key.LIMIT s.nodes.items ws s.head k n u a.wf a.entries_are (ap (λ (x : Head). x.width) e)) a.entries_are

@@ -1,5 +1,5 @@
 -- The facts of a store come out from under their truncation, since what they say can be tested. Assumes nothing.
-use Rattle.std.proofs.Common.{◌≡◌, ℕ, zero, suc, ◌+◌, ◌-◌, ◌^◌, List, [], ◌∷◌, length, Some, None, Option, sym, refl, ap, ◌∙◌, subst, arith}
+use Rattle.std.proofs.Common.{◌≡◌, ℕ, zero, suc, ◌+◌, ◌-◌, ◌^◌, ◌<◌, List, [], ◌∷◌, length, Some, None, Option, sym, refl, ap, ◌∙◌, subst, arith}
 use mathlib.Core.Logic.{∥∥₁_elim, ∥∥₁_map}
 use Rattle.std.proofs.Props.{props}
 use Rattle.std.specs.List.{slice_get}
@@ -106,3 +106,7 @@ module _ {V : Type 0} where
 -- what a search tree keeps
 pub known : {K V : Type 0} {key : Ghosts K} (s : SearchTree K V key) → Sound key.LIMIT s.nodes.items s.head
 known {key = key} s = sound key.LIMIT s.nodes.items s.head s.sound
+
+-- a key's number has no more digits than the tree goes by
+pub short : {K V : Type 0} {key : Ghosts K} (s : SearchTree K V key) (q : ℕ) → q < key.LIMIT → q < 2 ^ s.head.width.bits
+short s q lt = omega (arith, (known s).digits.suffice, lt)

@@ -40,8 +40,12 @@ module _ {V : Type 0} where
     pub count_is : h.count ≡ size t
     pub sized : size t ≡ length (pour t [])
 
+  -- the tree below a place, down to the last level that there can be
+  abbrev pub tree_at : List (Node V) → Head → Option ℕ → Tree V
+  tree_at ns h i = tree_below (suc h.width.bits) ns i
+
   abbrev pub tree_of : List (Node V) → Head → Tree V
-  tree_of ns h = tree_below (suc h.width.bits) ns h.root
+  tree_of ns h = tree_at ns h h.root
 
   abbrev pub stored : List (Node V) → Head → List (ℕ × V)
   stored ns h = pour (tree_of ns h) []

@@ -1,9 +1,9 @@
 //! The keys in order: the least key, and the least above a given one.
-ghost use Rattle.std.specs.Prelude.{◌≡◌, ℕ, suc, ◌+◌, Some};
+ghost use Rattle.std.specs.Prelude.{◌≡◌, ℕ, ◌+◌, Some};
 ghost use Rattle.store.specs.Model.{first_from};
-ghost use Rattle.tree.specs.Tree.{link, Laid, tree_below};
+ghost use Rattle.tree.specs.Tree.{link, Laid};
 ghost use Rattle.tree.specs.Order.{lesser, least, node_passed, side_passed};
-ghost use Rattle.tree.specs.State.{stored};
+ghost use Rattle.tree.specs.State.{tree_at, stored};
 
 use crate::links::Side;
 use crate::search_tree::SearchTree;
@@ -19,7 +19,7 @@ fn lesser_of(best: Option<u64>, key: u64) -> Option<u64>
 
 /// What the walk to the next key has come by: the least greater key on the way, and the last subtree to the right of the
 /// way, whose keys are all greater. A greater key met after it is less than that whole subtree, which then drops out.
-#[derive(Clone, Copy)]
+#[derive(Clone, Copy, Default)]
 struct Passed {
     best: Option<u64>,
     aside: Option<u16>,
@@ -57,13 +57,11 @@ impl Passed {
 impl<K: Key, V: Copy> SearchTree<K, V> {
     /// The least key at or below the node at `at`, or `best` if that is less. The least is on the way that keeps to the
     /// left, for every key on the left of a node is below every key on its right.
-    fn least_from(&self, at: Option<u16>, best: Option<u64>) -> Option<u64>
-        requires link { at ≡ link (tree_below (suc self.now.head.width.bits) self.now.nodes.items at) }
-        requires tree { Laid self.now.nodes.items (tree_below (suc self.now.head.width.bits) self.now.nodes.items at) }
-        ensures { result ≡ lesser best (least (tree_below (suc self.now.head.width.bits) self.now.nodes.items at)) }
+    fn least_from(&self, mut at: Option<u16>, mut best: Option<u64>) -> Option<u64>
+        requires link { at ≡ link (tree_at self.now.nodes.items self.now.head at) }
+        requires tree { Laid self.now.nodes.items (tree_at self.now.nodes.items self.now.head at) }
+        ensures { result ≡ lesser best (least (tree_at self.now.nodes.items self.now.head at)) }
     {
-        let mut at = at;
-        let mut best = best;
         while let Some(i) = at {
             let node = &self.nodes[i as usize];
             best = lesser_of(best, node.key);
@@ -87,10 +85,7 @@ impl<K: Key, V: Copy> SearchTree<K, V> {
         let key = k.to_number();
         let mut at = self.head.root;
         let mut span = Span::of(self.head.width);
-        let mut seen = Passed {
-            best: None,
-            aside: None,
-        };
+        let mut seen = Passed::default();
         while let Some(i) = at {
             let node = &self.nodes[i as usize];
             let side = span.side_of(key);

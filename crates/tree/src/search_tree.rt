@@ -9,6 +9,7 @@ use crate::node::Node;
 use crate::width::Width;
 use key::Key;
 use std::marker::PhantomData;
+use store::MOST_ROOM;
 
 pub mod record_store;
 
@@ -25,12 +26,11 @@ pub struct SearchTree<K: Key, V> {
 impl<K: Key, V: Copy> SearchTree<K, V> {
     /// An empty store in the nodes, or in the first 65,536 of them. These are its room, so a put is refused as full
     /// only once every one of them holds a record.
-    pub fn over(nodes: Vec<Node<V>>) -> SearchTree<K, V>
+    pub fn over(mut nodes: Vec<Node<V>>) -> SearchTree<K, V>
         ensures room { vec_len result.nodes ≡ min (vec_len nodes) 65536 }
         ensures empty { stored result.nodes.items result.head ≡ [] }
     {
-        let mut nodes = nodes;
-        nodes.truncate(65536);
+        nodes.truncate(MOST_ROOM);
         SearchTree {
             nodes,
             head: Head::empty(Width::of(K::LIMIT)),

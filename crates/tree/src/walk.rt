@@ -1,9 +1,8 @@
 //! The walks down the tree. Each looks at one node to a level, and there are no more levels than a key has binary
 //! digits, plus one.
-ghost use Rattle.std.specs.Prelude.{ℕ, suc, Some};
-ghost use Rattle.tree.specs.Tree.{tree_below};
+ghost use Rattle.std.specs.Prelude.{ℕ, Some};
 ghost use Rattle.tree.specs.Feet.{Bottom};
-ghost use Rattle.tree.specs.State.{Held, Sought};
+ghost use Rattle.tree.specs.State.{tree_at, Held, Sought};
 
 use crate::links::{Link, Place};
 use crate::search_tree::SearchTree;
@@ -36,7 +35,7 @@ impl<K: Key, V: Copy> SearchTree<K, V> {
     /// A node with no child, at or below one that holds a key.
     pub(crate) fn bottom(&self, from: Place) -> Place
         requires { (q : ℕ) × Held K.LIMIT self.now.nodes.items self.now.head q from }
-        ensures { Bottom (tree_below (suc self.now.head.width.bits) self.now.nodes.items (Some from.at)) from.under result.at result.under }
+        ensures { Bottom (tree_at self.now.nodes.items self.now.head (Some from.at)) from.under result.at result.under }
     {
         let mut tip = from;
         while let Some((side, at)) = self.nodes[tip.at as usize].some_child() {

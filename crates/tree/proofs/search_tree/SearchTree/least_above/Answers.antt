@@ -1,10 +1,10 @@
 -- The answers of `least_above`. Assumes nothing.
-use Rattle.std.proofs.Common.{ℕ, ◌+◌, ◌^◌, ◌<◌, ap, ◌∙◌, arith}
+use Rattle.std.proofs.Common.{ℕ, ◌+◌, ap, ◌∙◌, arith}
 use Rattle.store.specs.Model.{first_from}
 use Rattle.tree.specs.State.{tree_of, stored}
 use Rattle.tree.proofs.Finds.{seekable}
 use Rattle.tree.proofs.Hunts.{hunt_begin, hunt_ok, hunt_turn, hunt-fewer, aside, hunt_none, next-first}
-use Rattle.tree.proofs.Sealed.{known}
+use Rattle.tree.proofs.Sealed.{known, short}
 use Rattle.tree.proofs.Trees.{read}
 use Rattle.tree.proofs.search_tree.SearchTree.least_above.Goals as goal
 
@@ -15,8 +15,8 @@ loop-at-init g c =
     let u = known s in
     let r = seekable s.nodes.items h u.wf in
     let q = c.to_number-key.result in
-    let short : q < 2 ^ h.width.bits = omega (arith, u.digits.suffice, c.to_number-key.ensures.below) in
-    simp (c.of-span.ensures.low, c.of-span.ensures.half) (hunt_begin (tree_of s.nodes.items h) r.root_is r.is r.inside h.width.halved short h.width.some)
+    let lt = short s q c.to_number-key.ensures.below in
+    simp (c.of-span.ensures.low, c.of-span.ensures.half, c.default-seen.ensures.0, c.default-seen.ensures.1) (hunt_begin (tree_of s.nodes.items h) r.root_is r.is r.inside h.width.halved lt h.width.some)
 
 pub least_from-requires-clause-tree : goal.least_from-requires-clause-tree
 least_from-requires-clause-tree g c = (aside c.loop-at.invariant).is
@@ -40,5 +40,5 @@ returns g c =
     let s = c.args.self.now in
     let u = known s in
     let q = c.to_number-key.result in
-    let short : q < 2 ^ s.head.width.bits = omega (arith, u.digits.suffice, c.to_number-key.ensures.below) in
-    c.least_from.ensures ∙ hunt_none c.loop-at.invariant c.in_default.is ∙ next-first s.nodes.items s.head q u.wf short ∙ ap (λ (n : ℕ). first_from (stored s.nodes.items s.head) (n + 1)) c.to_number-key.ensures.is
+    let lt = short s q c.to_number-key.ensures.below in
+    c.least_from.ensures ∙ hunt_none c.loop-at.invariant c.in_default.is ∙ next-first s.nodes.items s.head q u.wf lt ∙ ap (λ (n : ℕ). first_from (stored s.nodes.items s.head) (n + 1)) c.to_number-key.ensures.is

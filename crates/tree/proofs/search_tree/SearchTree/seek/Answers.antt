@@ -1,8 +1,8 @@
 -- The answers of `seek`. Assumes nothing.
-use Rattle.std.proofs.Common.{◌^◌, ◌<◌, sym, subst, arith}
+use Rattle.std.proofs.Common.{sym, subst, arith}
 use Rattle.tree.specs.State.{Held, tree_of}
 use Rattle.tree.proofs.Finds.{seekable}
-use Rattle.tree.proofs.Sealed.{known}
+use Rattle.tree.proofs.Sealed.{known, short}
 use Rattle.tree.proofs.Turns.{found, index_ok, go_on, turn-fewer, begin}
 use Rattle.tree.proofs.Trees.{read}
 use Rattle.tree.proofs.search_tree.SearchTree.seek.Goals as goal
@@ -14,8 +14,8 @@ loop-at-init g c =
     let u = known s in
     let r = seekable s.nodes.items h u.wf in
     let q = c.to_number-key.result in
-    let short : q < 2 ^ h.width.bits = omega (arith, u.digits.suffice, c.to_number-key.ensures.below) in
-    simp (c.of-span.ensures.low, c.of-span.ensures.half) (begin (tree_of s.nodes.items h) r.root_is r.is r.inside h.width.halved short (omega (arith, h.width.some)))
+    let lt = short s q c.to_number-key.ensures.below in
+    simp (c.of-span.ensures.low, c.of-span.ensures.half) (begin (tree_of s.nodes.items h) r.root_is r.is r.inside h.width.halved lt (omega (arith, h.width.some)))
 
 pub index-node-requires : goal.index-node-requires
 index-node-requires g c = omega (arith, c.args.self.now.nodes.ok.0, index_ok c.loop-at.invariant c.in-Some.is)
