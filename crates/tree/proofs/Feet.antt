@@ -16,7 +16,7 @@ use Rattle.tree.proofs.Depths.{levels_below}
 use Rattle.tree.proofs.Ends.{first}
 use Rattle.tree.proofs.Entries.{yes_eq, no_eq}
 use Rattle.tree.proofs.Trees.{one_same, At, outside, same, nth_lt}
-use Rattle.tree.proofs.Turns.{forked, fewer}
+use Rattle.tree.proofs.Steps.{forked, fewer}
 
 pub off_other : (p q : ℕ) (a b : Side) (u : Option Link) → u ≡ Some (on p a) → u ≡ Some (on q b) → p ≡ q
 off_other p q a b u e f = ap first (sym e ∙ f)

@@ -13,5 +13,6 @@ pub mod OldKey
 pub mod Removal
 pub mod Sealed
 pub mod Spares
+pub mod Steps
 pub mod Trees
 pub mod Turns

@@ -3,8 +3,9 @@ use Rattle.std.proofs.Common.{ℕ, ◌+◌, ap, ◌∙◌, arith}
 use Rattle.store.specs.Model.{first_from}
 use Rattle.tree.specs.State.{tree_of, stored}
 use Rattle.tree.proofs.Finds.{seekable}
-use Rattle.tree.proofs.Hunts.{hunt_begin, hunt_ok, hunt_turn, hunt-fewer, aside, hunt_none, next-first}
+use Rattle.tree.proofs.Hunts.{hunt_begin, hunt_turn, aside, hunt_none, next-first}
 use Rattle.tree.proofs.Sealed.{known, short}
+use Rattle.tree.proofs.Steps.{stand_ok, stand-fewer}
 use Rattle.tree.proofs.Trees.{read}
 use Rattle.tree.proofs.search_tree.SearchTree.least_above.Goals as goal
 
@@ -16,24 +17,24 @@ loop-at-init g c =
     let r = seekable s.nodes.items h u.wf in
     let q = c.to_number-key.result in
     let lt = short s q c.to_number-key.ensures.below in
-    simp (c.of-span.ensures.low, c.of-span.ensures.half, c.default-seen.ensures.0, c.default-seen.ensures.1) (hunt_begin (tree_of s.nodes.items h) r.root_is r.is r.inside h.width.halved lt h.width.some)
+    simp (c.of-span.ensures.low, c.of-span.ensures.half) (hunt_begin (tree_of s.nodes.items h) c.default-seen.result c.default-seen.ensures.0 c.default-seen.ensures.1 r.root_is r.is r.inside h.width.halved lt h.width.some)
 
 pub least_from-requires-clause-tree : goal.least_from-requires-clause-tree
 least_from-requires-clause-tree g c = (aside c.loop-at.invariant).is
 
 pub index-node-requires : goal.index-node-requires
-index-node-requires g c = omega (arith, c.args.self.now.nodes.ok.0, hunt_ok c.loop-at.invariant c.in-Some.is)
+index-node-requires g c = omega (arith, c.args.self.now.nodes.ok.0, stand_ok c.loop-at.invariant.here c.in-Some.is)
 
 pub loop-at-preserved : goal.loop-at-preserved
 loop-at-preserved g c =
     let n = c.index-node.result.now in
-    let at = read c.args.self.now.nodes.items c.in-Some.i n (hunt_ok c.loop-at.invariant c.in-Some.is) c.index-node.ensures in
+    let at = read c.args.self.now.nodes.items c.in-Some.i n (stand_ok c.loop-at.invariant.here c.in-Some.is) c.index-node.ensures in
     simp (c.child-at.ensures, c.on-span.ensures.low, c.on-span.ensures.half) (hunt_turn n c.loop-at.seen c.node.result c.beside-seen.result c.side_of-side.result c.loop-at.invariant c.in-Some.is at c.side_of-side.ensures c.node.ensures c.beside-seen.ensures)
 
 pub loop-at-smaller : goal.loop-at-smaller
 loop-at-smaller g c =
-    let at = read c.args.self.now.nodes.items c.in-Some.i _ (hunt_ok c.loop-at.invariant c.in-Some.is) c.index-node.ensures in
-    simp c.child-at.ensures (hunt-fewer c.index-node.result.now c.side_of-side.result c.loop-at.invariant c.in-Some.is at)
+    let at = read c.args.self.now.nodes.items c.in-Some.i _ (stand_ok c.loop-at.invariant.here c.in-Some.is) c.index-node.ensures in
+    simp c.child-at.ensures (stand-fewer c.index-node.result.now c.side_of-side.result c.loop-at.invariant.here c.in-Some.is at)
 
 pub returns : goal.returns
 returns g c =

@@ -10,7 +10,7 @@ abbrev pub invariant-loop-at : goal.invariant-loop-at
 invariant-loop-at g l =
     let ns = l.self.nodes.items in
     let h = l.self.head in
-    Hunt ns l.key h.width.bits l.at l.span.low l.span.half l.seen.best l.seen.aside (next l.key h.width.bits 0 (tree_of ns h))
+    Hunt ns l.key h.width.bits l.at l.span.low l.span.half l.seen (next l.key h.width.bits 0 (tree_of ns h))
 
 abbrev pub decreases-loop-at : goal.decreases-loop-at
 decreases-loop-at g l = size (tree_below (suc l.self.head.width.bits) l.self.nodes.items l.at)

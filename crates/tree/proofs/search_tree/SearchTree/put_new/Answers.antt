@@ -3,7 +3,7 @@ use Rattle.std.proofs.Common.{◌≡◌, ℕ, length, sym, refl, ap, subst, arit
 use Rattle.tree.specs.Tree.{occurs, one, size}
 use Rattle.tree.specs.State.{tree_of}
 use Rattle.tree.specs.Writes.{Beside}
-use Rattle.tree.proofs.Lent.{left_new}
+use Rattle.tree.proofs.Lent.{leaves_new}
 use Rattle.tree.proofs.NewKey.{the_tree, link_ok}
 use Rattle.tree.proofs.Sealed.{known}
 use Rattle.tree.proofs.Trees.{one_same}
@@ -25,8 +25,8 @@ grown-self-requires g c =
 
 pub invariant_of-self : goal.invariant_of-self
 invariant_of-self g c =
-    let l = left_new c.args.self.now _ c.attach.new.nodes c.deref_mut.ensures.value c.attach.auto.nodes c.grown-self.result c.args.spare c.args.under _ _ c.args.v c.to_number.ensures.is c.grown-self.ensures c.requires.spare c.requires.missing c.attach.ensures in
+    let l = leaves_new c.args.self.now _ c.attach.new.nodes c.deref_mut.ensures.value c.attach.auto.nodes c.grown-self.result c.args.spare c.args.under _ _ c.args.v c.to_number.ensures.is c.grown-self.ensures c.requires.spare c.requires.missing c.attach.ensures in
     record { sound = l.sound; counted = l.counted }
 
 pub returns-clause-entries : goal.returns-clause-entries
-returns-clause-entries g c = (left_new c.args.self.now _ c.attach.new.nodes c.deref_mut.ensures.value c.attach.auto.nodes c.grown-self.result c.args.spare c.args.under _ _ c.args.v c.to_number.ensures.is c.grown-self.ensures c.requires.spare c.requires.missing c.attach.ensures).entries
+returns-clause-entries g c = (leaves_new c.args.self.now _ c.attach.new.nodes c.deref_mut.ensures.value c.attach.auto.nodes c.grown-self.result c.args.spare c.args.under _ _ c.args.v c.to_number.ensures.is c.grown-self.ensures c.requires.spare c.requires.missing c.attach.ensures).entries

@@ -6,7 +6,7 @@ use Rattle.store.specs.Model.{PutSays}
 use Rattle.tree.specs.State.{stored}
 use Rattle.tree.proofs.Finds.{missing_none, held_within, held-holds}
 use Rattle.tree.proofs.Keeps.{took, known_taken, put_full}
-use Rattle.tree.proofs.Lent.{left_renewed}
+use Rattle.tree.proofs.Lent.{leaves_renewed}
 use Rattle.tree.proofs.Sealed.{known}
 use Rattle.tree.proofs.search_tree.record_store.SearchTreeRecordStore.put.Goals as goal
 
@@ -15,7 +15,7 @@ renew-requires g c = omega (arith, held_within c.args.self.now _ c.in-Ok.held c.
 
 pub invariant_of-self : goal.invariant_of-self
 invariant_of-self g c =
-    let l = left_renewed c.args.self.now _ c.renew.new.nodes c.deref_mut.ensures.value c.renew.auto.nodes c.in-Ok.held _ c.args.v c.in-Ok.ensures c.renew.ensures in
+    let l = leaves_renewed c.args.self.now _ c.renew.new.nodes c.deref_mut.ensures.value c.renew.auto.nodes c.in-Ok.held _ c.args.v c.in-Ok.ensures c.renew.ensures in
     record { sound = l.sound; counted = l.counted }
 
 pub returns-in_err-spare-in-Err-clause-entries : goal.returns-in_err-spare-in-Err-clause-entries
@@ -30,7 +30,7 @@ returns-in_err-spare-in-Err-clause-entries g c =
 pub returns-in-Ok-clause-entries : goal.returns-in-Ok-clause-entries
 returns-in-Ok-clause-entries g c =
     let s = c.args.self.now in
-    let l = left_renewed s _ c.renew.new.nodes c.deref_mut.ensures.value c.renew.auto.nodes c.in-Ok.held _ c.args.v c.in-Ok.ensures c.renew.ensures in
+    let l = leaves_renewed s _ c.renew.new.nodes c.deref_mut.ensures.value c.renew.auto.nodes c.in-Ok.held _ c.args.v c.in-Ok.ensures c.renew.ensures in
     (known_taken _ s.nodes.len (stored s.nodes.items s.head) (held-holds s _ c.in-Ok.held c.in-Ok.ensures), l.entries)
 
 pub returns-in_ok-spare-in-Err-clause-entries : goal.returns-in_ok-spare-in-Err-clause-entries

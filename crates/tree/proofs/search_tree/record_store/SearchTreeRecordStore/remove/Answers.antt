@@ -4,7 +4,7 @@ use Rattle.tree.specs.State.{stored}
 use Rattle.tree.specs.Writes.{Stands}
 use Rattle.tree.proofs.Entries.{del-none}
 use Rattle.tree.proofs.Finds.{missing_none, held_within, held-holds}
-use Rattle.tree.proofs.Lent.{left-out}
+use Rattle.tree.proofs.Lent.{leaves-out}
 use Rattle.tree.proofs.Maps.{holds-none}
 use Rattle.tree.proofs.Removal.{ranges, found_some}
 use Rattle.tree.proofs.Sealed.{known}
@@ -35,7 +35,7 @@ shrunk-self-requires g c =
 
 pub invariant_of-self : goal.invariant_of-self
 invariant_of-self g c =
-    let l = left-out c.args.self.now _ c.take_out.new.nodes c.deref_mut.ensures.value c.take_out.auto.nodes c.shrunk-self.result c.in-Ok.held c.bottom-tip.result _ c.shrunk-self.ensures c.in-Ok.ensures c.bottom-tip.ensures c.take_out.ensures in
+    let l = leaves-out c.args.self.now _ c.take_out.new.nodes c.deref_mut.ensures.value c.take_out.auto.nodes c.shrunk-self.result c.in-Ok.held c.bottom-tip.result _ c.shrunk-self.ensures c.in-Ok.ensures c.bottom-tip.ensures c.take_out.ensures in
     record { sound = l.sound; counted = l.counted }
 
 pub returns-clause-stood : goal.returns-clause-stood
@@ -43,4 +43,4 @@ returns-clause-stood g c = sym (held-holds c.args.self.now _ c.in-Ok.held c.in-O
 
 pub returns-clause-entries : goal.returns-clause-entries
 returns-clause-entries g c =
-    (left-out c.args.self.now _ c.take_out.new.nodes c.deref_mut.ensures.value c.take_out.auto.nodes c.shrunk-self.result c.in-Ok.held c.bottom-tip.result _ c.shrunk-self.ensures c.in-Ok.ensures c.bottom-tip.ensures c.take_out.ensures).entries
+    (leaves-out c.args.self.now _ c.take_out.new.nodes c.deref_mut.ensures.value c.take_out.auto.nodes c.shrunk-self.result c.in-Ok.held c.bottom-tip.result _ c.shrunk-self.ensures c.in-Ok.ensures c.bottom-tip.ensures c.take_out.ensures).entries
