@@ -1,4 +1,3 @@
-pub mod Same
 pub mod Taken
 pub mod Resets
 pub mod Ends

@@ -14,11 +14,15 @@ unfolding tally
 loop-imsi-init g c =
     let es = g.S.RecordStore.entries c.args.store.now in
     let id = c.args.id in
-    (refl, sym (each_to-none (reset_one id.digits id.value) es), sym (ap (tally (concerns id.digits id.value)) (up_to_none es)))
+    record {
+      room = refl;
+      records = sym (each_to-none (reset_one id.digits id.value) es);
+      count = sym (ap (tally (concerns id.digits id.value)) (up_to_none es));
+    }
 
 pub unwrap-record-requires : goal.unwrap-record-requires
 unwrap-record-requires g c =
-    rw c.find.ensures (found _ _ _ _ _ _ (g.met.S.RecordStore.lawful c.args.store.now).rising c.loop-imsi.invariant.1 c.in-Some.ensures)
+    rw c.find.ensures (found _ _ _ _ _ _ (g.met.S.RecordStore.lawful c.args.store.now).rising c.loop-imsi.invariant.records c.in-Some.ensures)
 
 -- a record that is there is replaced, however full the store
 pub unwrap-requires : goal.unwrap-requires
@@ -28,30 +32,35 @@ unwrap-requires g c =
 pub overflow_add-count : goal.overflow_add-count
 overflow_add-count g c =
     let law = g.met.S.RecordStore.lawful c.args.store.now in
-    omega (arith, c.loop-imsi.invariant.2, turn_low _ _ _ _ _ _ law.rising c.loop-imsi.invariant.1 c.in-Some.ensures, law.bounded, law.small)
+    omega (arith, c.loop-imsi.invariant.count, turn_low _ _ _ _ _ _ law.rising c.loop-imsi.invariant.records c.in-Some.ensures, law.bounded, law.small)
 
 pub loop-imsi-smaller-then-begins_with : goal.loop-imsi-smaller-then-begins_with
-loop-imsi-smaller-then-begins_with g c = turn_falls _ _ _ _ _ _ (g.met.S.RecordStore.lawful c.args.store.now).rising c.loop-imsi.invariant.1 c.in-Some.ensures
+loop-imsi-smaller-then-begins_with g c = turn_falls _ _ _ _ _ _ (g.met.S.RecordStore.lawful c.args.store.now).rising c.loop-imsi.invariant.records c.in-Some.ensures
 
 pub loop-imsi-smaller : goal.loop-imsi-smaller
-loop-imsi-smaller g c = turn_falls _ _ _ _ _ _ (g.met.S.RecordStore.lawful c.args.store.now).rising c.loop-imsi.invariant.1 c.in-Some.ensures
+loop-imsi-smaller g c = turn_falls _ _ _ _ _ _ (g.met.S.RecordStore.lawful c.args.store.now).rising c.loop-imsi.invariant.records c.in-Some.ensures
 
 pub loop-imsi-preserved-then-begins_with : goal.loop-imsi-preserved-then-begins_with
 loop-imsi-preserved-then-begins_with g c =
     let up = (g.met.S.RecordStore.lawful c.args.store.now).rising in
     let id = c.args.id in
-    let concerned : begins c.in-Some.imsi.number id.digits id.value ≡ true = sym c.begins_with.ensures ∙ c.if-begins_with.true in (
-      c.put.ensures.room ∙ c.loop-imsi.invariant.0,
-      (rw c.unwrap.ensures at c.put.ensures.entries).1 ∙ ap (with_entry (g.S.RecordStore.entries c.loop-imsi.store) c.in-Some.imsi.number) c.unlocated.ensures ∙ turn_sets _ _ _ _ _ _ up c.loop-imsi.invariant.1 c.in-Some.ensures c.unwrap-record.result (sym c.find.ensures ∙ c.unwrap-record.ensures) concerned,
-      omega (arith, c.loop-imsi.invariant.2, rw concerned at (turn_counts _ _ _ _ _ _ up c.loop-imsi.invariant.1 c.in-Some.ensures)),
-    )
+    let concerned : begins c.in-Some.imsi.number id.digits id.value ≡ true = sym c.begins_with.ensures ∙ c.if-begins_with.true in
+    record {
+      room = c.put.ensures.room ∙ c.loop-imsi.invariant.room;
+      records = (rw c.unwrap.ensures at c.put.ensures.entries).1 ∙ ap (with_entry (g.S.RecordStore.entries c.loop-imsi.store) c.in-Some.imsi.number) c.unlocated.ensures ∙ turn_sets _ _ _ _ _ _ up c.loop-imsi.invariant.records c.in-Some.ensures c.unwrap-record.result (sym c.find.ensures ∙ c.unwrap-record.ensures) concerned;
+      count = omega (arith, c.loop-imsi.invariant.count, rw concerned at (turn_counts _ _ _ _ _ _ up c.loop-imsi.invariant.records c.in-Some.ensures));
+    }
 
 pub loop-imsi-preserved : goal.loop-imsi-preserved
 loop-imsi-preserved g c =
     let up = (g.met.S.RecordStore.lawful c.args.store.now).rising in
     let id = c.args.id in
     let passed : begins c.in-Some.imsi.number id.digits id.value ≡ false = sym c.begins_with.ensures ∙ c.if-begins_with.false in
-    (c.loop-imsi.invariant.0, turn_passes _ _ _ _ _ _ up c.loop-imsi.invariant.1 c.in-Some.ensures passed, c.loop-imsi.invariant.2 ∙ sym (rw passed at (turn_counts _ _ _ _ _ _ up c.loop-imsi.invariant.1 c.in-Some.ensures)))
+    record {
+      room = c.loop-imsi.invariant.room;
+      records = turn_passes _ _ _ _ _ _ up c.loop-imsi.invariant.records c.in-Some.ensures passed;
+      count = c.loop-imsi.invariant.count ∙ sym (rw passed at (turn_counts _ _ _ _ _ _ up c.loop-imsi.invariant.records c.in-Some.ensures));
+    }
 
 pub returns : goal.returns
 returns g c =
@@ -59,9 +68,9 @@ returns g c =
     let n = start (numbered (λ k. k.number) c.loop-imsi.last) in
     let id = c.args.id in
     let f = reset_one id.digits id.value in
-    let last = sym (first-each_to f n es) ∙ ap (λ zs. first_from zs n) (sym c.loop-imsi.invariant.1) ∙ sym c.next.ensures ∙ ap (numbered (λ k. k.number)) c.in_default.is in
+    let last = sym (first-each_to f n es) ∙ ap (λ zs. first_from zs n) (sym c.loop-imsi.invariant.records) ∙ sym c.next.ensures ∙ ap (numbered (λ k. k.number)) c.in_default.is in
     record {
-      room = c.loop-imsi.invariant.0;
-      count = c.loop-imsi.invariant.2 ∙ ap (tally (concerns id.digits id.value)) (up_to_all n es last);
-      records = c.loop-imsi.invariant.1 ∙ each_to_all f n es last;
+      room = c.loop-imsi.invariant.room;
+      count = c.loop-imsi.invariant.count ∙ ap (tally (concerns id.digits id.value)) (up_to_all n es last);
+      records = c.loop-imsi.invariant.records ∙ each_to_all f n es last;
     }
