@@ -1,5 +1,6 @@
 //! The invoke of a dialogue: the right, and the duty, to send it or to withdraw it.
 ghost use Rattle.std.specs.Prelude.{◌≡◌, true, false};
+ghost use Rattle.std.specs.Option.{option_map};
 ghost use Rattle.visitor.specs.Invokes.{fresh, hand};
 ghost use Rattle.restoration.specs.Steps.{invoke_of};
 
@@ -31,7 +32,7 @@ pub struct Handed {
 impl Invoke {
     /// The invoke of a dialogue that opened. A stand-alone update needs none.
     fn of(opened: Opened) -> Option<Invoke>
-        ensures { result ≡ fresh (invoke_of opened.kind opened.dialogue) }
+        ensures { result ≡ option_map fresh (invoke_of opened.kind opened.dialogue) }
     {
         match opened.kind {
             Kind::RestoreData | Kind::UpdateLocation => Some(Invoke {
