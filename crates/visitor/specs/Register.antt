@@ -15,7 +15,7 @@ FitsSays s k kept (Err e) = (e ≡ StoreFull) × (has_room s k kept ≡ false)
 
 -- that it is kept, or why not
 abbrev pub KeepSays : {T : Type 0} → State → ℕ → Option Record → Result T Refusal → State → Type 0
-KeepSays s k kept (Ok _) t = (has_room s k kept ≡ true) × (t ≡ record { records = keep s.records k kept; room = s.room; dialogues = s.dialogues; last = s.last; several = s.several })
+KeepSays s k kept (Ok _) t = (has_room s k kept ≡ true) × (t ≡ record s { records = keep s.records k kept })
 KeepSays s k kept (Err e) t = (e ≡ StoreFull) × (has_room s k kept ≡ false) × (t ≡ s)
 
 -- a plan that is such was carried out, or turned down
