@@ -68,6 +68,7 @@ fn read_reset(operands: &[u8]) -> Result<Event<'_>, Refusal>
 fn read_coded(code: u8, operands: &[u8]) -> Result<Event<'_>, Refusal>
     ensures { parsed result ≡ read_coded code operands.now }
 {
+    // Each case is made after its `?`: a `map` by a case that may borrow the input is not covered by the prover.
     match code {
         0x01 => Ok(Event::ProvideRoamingNumber(read_imsi(operands)?)),
         0x02 => Ok(Event::CallInformation(read_imsi(operands)?)),

@@ -47,6 +47,7 @@ impl Located {
         }
     }
 
+    // Beside `access`, since the events, whose form the project fixed, have two cases of these fields.
     /// The contact as a registration of the location.
     pub fn registration(self) -> Event<'static>
         ensures { as_event result ≡ registration self.contact.imsi self.contact.auth self.contact.msc self.area }
