@@ -1,11 +1,10 @@
 use Rattle.std.proofs.Common.{◌≡◌, true, false, sym, refl, ap, ◌∙◌, arith}
 use Rattle.key.specs.Figures.{begins}
-use Rattle.store.specs.Model.{start, numbered, tally, first_from, with_entry}
+use Rattle.store.specs.Model.{start, numbered, tally, first_from, with_entry, takes}
 use Rattle.store.proofs.Maps.{takes-some}
 use Rattle.store.proofs.Walk.{up_to_none, up_to_all}
 use Rattle.store.proofs.Each.{each_to-none, each_to_all, first-each_to}
 use Rattle.restoration.specs.Steps.{concerns, reset_one}
-use Rattle.visitor.proofs.Taken.{put-taken}
 use Rattle.visitor.proofs.Resets.{found, turn_sets, turn_passes, turn_falls, turn_counts, turn_low}
 use Rattle.visitor.proofs.endings.unlocate.Goals as goal
 
@@ -27,7 +26,9 @@ unwrap-record-requires g c =
 -- a record that is there is replaced, however full the store
 pub unwrap-requires : goal.unwrap-requires
 unwrap-requires g c =
-    put-taken _ _ _ _ _ _ c.put.ensures.entries (takes-some _ _ _ c.unwrap-record.result (sym c.find.ensures ∙ c.unwrap-record.ensures))
+    let store = c.loop-imsi.store in
+    let room : takes (g.S.RecordStore.room store) (g.S.RecordStore.entries store) c.in-Some.imsi.number ≡ true = takes-some _ _ _ c.unwrap-record.result (sym c.find.ensures ∙ c.unwrap-record.ensures) in
+    grind arith
 
 pub overflow_add-count : goal.overflow_add-count
 overflow_add-count g c =
