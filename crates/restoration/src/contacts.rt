@@ -59,6 +59,7 @@ fn plan_contact(
     }
 }
 
+// The operands of a contact stay apart: Outgoing tells no area, so a struct of them would be taken apart at once.
 /// The handset answered a page or a search; `busy` tells whether Update Location is open.
 pub fn plan_access(old: Option<Record>, auth: Auth, msc: u8, area: u16, busy: bool) -> Plan
     ensures { result ≡ access_plan old auth msc area busy }

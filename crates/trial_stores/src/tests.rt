@@ -1,7 +1,7 @@
 //! Rows, the tree, and stores with a back-up made of either, against the library's map.
 use crate::backing::every_fill_backed;
 use crate::drill::{every_fill_of, largest_room};
-use key::{Imsi, Tmsi};
+use key::{Imsi, Key, Tmsi};
 use std::alloc::{AllocError, Global};
 use std::test::Fail;
 use store::{Backed, MOST_ROOM, RecordStore, Row, Rows};
@@ -11,19 +11,11 @@ type ImsiRows = Rows<Imsi, u32>;
 
 type ImsiTree = SearchTree<Imsi, u32>;
 
-fn imsi_rows(heap: Global, n: usize) -> Result<ImsiRows, AllocError> {
+fn rows_of<K: Key>(heap: Global, n: usize) -> Result<Rows<K, u32>, AllocError> {
     Ok(Rows::over(vec![in heap; Row::spare(9u32); n]?))
 }
 
-fn tmsi_rows(heap: Global, n: usize) -> Result<Rows<Tmsi, u32>, AllocError> {
-    Ok(Rows::over(vec![in heap; Row::spare(9u32); n]?))
-}
-
-fn imsi_tree(heap: Global, n: usize) -> Result<ImsiTree, AllocError> {
-    Ok(SearchTree::over(vec![in heap; Node::spare(9u32); n]?))
-}
-
-fn tmsi_tree(heap: Global, n: usize) -> Result<SearchTree<Tmsi, u32>, AllocError> {
+fn tree_of<K: Key>(heap: Global, n: usize) -> Result<SearchTree<K, u32>, AllocError> {
     Ok(SearchTree::over(vec![in heap; Node::spare(9u32); n]?))
 }
 
@@ -32,8 +24,8 @@ fn rows_backed_by_tree(
     live: usize,
     back: usize,
 ) -> Result<Backed<Imsi, u32, ImsiRows, ImsiTree>, AllocError> {
-    let live = imsi_rows(heap, live)?;
-    let back = imsi_tree(heap, back)?;
+    let live = rows_of::<Imsi>(heap, live)?;
+    let back = tree_of::<Imsi>(heap, back)?;
     Ok(Backed::over(live, back))
 }
 
@@ -41,10 +33,10 @@ fn rows_backed_by_tree(
 fn rows_and_tree_at_every_fill(rt: HostRuntime) -> Result<(), Fail> {
     let heap = rt.alloc();
     for room in 0..7 {
-        every_fill_of(&rt, imsi_rows(heap, room)?, heap)?;
-        every_fill_of(&rt, tmsi_rows(heap, room)?, heap)?;
-        every_fill_of(&rt, imsi_tree(heap, room)?, heap)?;
-        every_fill_of(&rt, tmsi_tree(heap, room)?, heap)?;
+        every_fill_of(&rt, rows_of::<Imsi>(heap, room)?, heap)?;
+        every_fill_of(&rt, rows_of::<Tmsi>(heap, room)?, heap)?;
+        every_fill_of(&rt, tree_of::<Imsi>(heap, room)?, heap)?;
+        every_fill_of(&rt, tree_of::<Tmsi>(heap, room)?, heap)?;
     }
     Ok(())
 }
@@ -54,10 +46,10 @@ fn stores_with_a_back_up_at_every_fill(rt: HostRuntime) -> Result<(), Fail> {
     let heap = rt.alloc();
     for live in 0..5 {
         for back in 0..5 {
-            let rows = imsi_rows(heap, live)?;
-            every_fill_backed(&rt, rows, imsi_tree(heap, back)?, heap)?;
-            let tree = imsi_tree(heap, live)?;
-            every_fill_backed(&rt, tree, imsi_rows(heap, back)?, heap)?;
+            let rows = rows_of::<Imsi>(heap, live)?;
+            every_fill_backed(&rt, rows, tree_of::<Imsi>(heap, back)?, heap)?;
+            let tree = tree_of::<Imsi>(heap, live)?;
+            every_fill_backed(&rt, tree, rows_of::<Imsi>(heap, back)?, heap)?;
         }
     }
     Ok(())
@@ -77,6 +69,6 @@ fn stores_with_a_back_up_inside_another(rt: HostRuntime) -> Result<(), Fail> {
 
 #[test]
 fn more_memory_than_room(rt: HostRuntime) -> Result<(), Fail> {
-    largest_room(&rt, tmsi_rows(rt.alloc(), MOST_ROOM + 3)?)?;
-    largest_room(&rt, tmsi_tree(rt.alloc(), MOST_ROOM + 3)?)
+    largest_room(&rt, rows_of::<Tmsi>(rt.alloc(), MOST_ROOM + 3)?)?;
+    largest_room(&rt, tree_of::<Tmsi>(rt.alloc(), MOST_ROOM + 3)?)
 }

@@ -43,6 +43,7 @@ impl<S: RecordStore<Imsi, Record>> Vlr<S> {
         })
     }
 
+    // The four events below keep methods of their own, since each is called by its name; this is what they share.
     /// How to reach the subscriber; `unknown` is the reply where that is not known.
     fn reach(&self, imsi: Imsi, unknown: Reply) -> Answer
         ensures { result ≡ reached self.now imsi.number unknown }
