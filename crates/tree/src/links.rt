@@ -35,18 +35,12 @@ pub(crate) fn set_link<V: Copy>(nodes: &mut [Node<V>], under: Option<Link>, to: 
     }
 }
 
-/// Writes a childless node at `new`, and sets the link to it.
-pub(crate) fn attach<V: Copy>(
-    nodes: &mut [Node<V>],
-    under: Option<Link>,
-    new: u16,
-    key: u64,
-    record: V,
-)
-    requires new { new < length nodes.old }
-    requires under { Beside (length nodes.old) new under }
-    ensures { Attached nodes.old nodes.new key «record» new under }
+/// Writes a childless node at the place, and sets the link to it.
+pub(crate) fn attach<V: Copy>(nodes: &mut [Node<V>], new: Place, key: u64, record: V)
+    requires at { new.at < length nodes.old }
+    requires under { Beside (length nodes.old) new.at new.under }
+    ensures { Attached nodes.old nodes.new key «record» new.at new.under }
 {
-    nodes[new as usize] = Node::childless(key, record);
-    set_link(nodes, under, Some(new));
+    nodes[new.at as usize] = Node::childless(key, record);
+    set_link(nodes, new.under, Some(new.at));
 }

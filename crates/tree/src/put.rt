@@ -5,7 +5,7 @@ ghost use Rattle.tree.specs.Writes.{Renewed};
 ghost use Rattle.tree.specs.State.{Missing, SpareNode, stored};
 
 use crate::free::Spare;
-use crate::links::{Link, attach};
+use crate::links::{Link, Place, attach};
 use crate::node::Node;
 use crate::search_tree::SearchTree;
 use key::Key;
@@ -26,7 +26,11 @@ impl<K: Key, V: Copy> SearchTree<K, V> {
         ensures room { vec_len self.new.nodes ≡ vec_len self.old.nodes }
         ensures entries { stored self.new.nodes.items self.new.head ≡ with_entry (stored self.old.nodes.items self.old.head) (K.number k) v }
     {
-        attach(&mut self.nodes, under, spare.at, k.to_number(), v);
+        let place = Place {
+            at: spare.at,
+            under,
+        };
+        attach(&mut self.nodes, place, k.to_number(), v);
         self.head = self.head.grown(spare, under);
     }
 }

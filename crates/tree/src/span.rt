@@ -28,10 +28,9 @@ impl Span {
 
     /// The side on which `key` stands.
     pub(crate) fn side_of(self, key: u64) -> Side
-        requires { self.low ≤ key }
         ensures { result ≡ (if nat_lt key (self.low + self.half) then Left else Right) }
     {
-        if key - self.low < self.half {
+        if key < self.low + self.half {
             Side::Left
         } else {
             Side::Right

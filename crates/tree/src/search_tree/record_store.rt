@@ -1,5 +1,6 @@
 //! The search tree as a record store.
-ghost use Rattle.std.specs.Prelude.{vec_len};
+ghost use Rattle.std.specs.Prelude.{◌≡◌, false, vec_len, IfErr};
+ghost use Rattle.store.specs.Model.{holds, without, PutSays};
 ghost use Rattle.tree.specs.State.{stored};
 ghost use Rattle.tree.specs.Laws.{tree_lawful};
 
@@ -36,7 +37,11 @@ impl<K: Key, V: Copy> RecordStore<K, V> for SearchTree<K, V> {
         K::from_number(found?)
     }
 
-    fn put(&mut self, k: K, v: V) -> Result<(), Refusal> {
+    fn put(&mut self, k: K, v: V) -> Result<(), Refusal>
+        ensures room { vec_len self.new.nodes ≡ vec_len self.old.nodes }
+        ensures entries { PutSays (vec_len self.old.nodes) (stored self.old.nodes.items self.old.head) (K.number k) v result (stored self.new.nodes.items self.new.head) }
+        ensures untouched { IfErr result (λ _. self.new ≡ self.old) }
+    {
         match self.seek(k) {
             Ok(held) => {
                 renew(&mut self.nodes, held.at, v);
@@ -50,7 +55,12 @@ impl<K: Key, V: Copy> RecordStore<K, V> for SearchTree<K, V> {
         }
     }
 
-    fn remove(&mut self, k: K) -> bool {
+    fn remove(&mut self, k: K) -> bool
+        ensures room { vec_len self.new.nodes ≡ vec_len self.old.nodes }
+        ensures stood { result ≡ holds (stored self.old.nodes.items self.old.head) (K.number k) }
+        ensures entries { stored self.new.nodes.items self.new.head ≡ without (stored self.old.nodes.items self.old.head) (K.number k) }
+        ensures untouched { result ≡ false → self.new ≡ self.old }
+    {
         let Ok(held) = self.seek(k) else {
             return false;
         };
