@@ -48,6 +48,7 @@ where
 
 /// It is the line's fault where more words follow.
 fn end(mut words: SplitWhitespace<'_>, fault: Fault) -> Result<(), Fault> {
+    // `map_or` with an `Ok` for nothing reads no plainer
     match words.next() {
         Some(_) => Err(fault),
         None => Ok(()),

@@ -10,7 +10,7 @@ use Rattle.tree.specs.declared.node.Node.{Node}
 use Rattle.tree.specs.Tree.{Tree, leaf, fork, node_of, link, Laid, Inside, place_of, last_link, occurs, size, one, record_of, Distinct, on}
 use Rattle.tree.specs.Writes.{with_link}
 use Rattle.tree.proofs.Entries.{yes_eq, no_eq, yes_lt, no_lt}
-use Rattle.tree.proofs.Trees.{or-none, one_same, At, at_left, at_right, outside, same}
+use Rattle.tree.proofs.Trees.{or-none, one_same, At, at_left, at_right, outside, same, branch, opposite, both_sides, laid_side, own_link}
 
 abbrev pub first : Option Link → ℕ
 first None = 0
@@ -135,41 +135,27 @@ module _ {V : Type 0} where
     pub kept : (x : ℕ) → 1 ≤ occurs x t → occurs x e ≡ 0 → ((p : ℕ) (side : Side) → u ≡ Some (on p side) → x ≡ p → ⊥) → slice_get ms x ≡ slice_get ns x
     pub linked : (p : ℕ) (side : Side) (n : Node V) → u ≡ Some (on p side) → 1 ≤ occurs p t → slice_get ns p ≡ Some n → slice_get ms p ≡ Some (with_link side (link s) n)
 
-  side_left : (ns ms : List (Node V)) (s : Tree V) (q h low j k : ℕ) (v : V) (l r : Tree V) → ((x : ℕ) → occurs x (fork j k v l r) ≤ 1) → Laid ns (fork j k v l r)
-      → Spliced ns ms s (fork j k v l r) (end q h low l) (last_link q h low l (Some (on j Left))) → (slice_get ms j ≡ Some (node_of k v (link (put_at s q h low l)) (link r))) × Laid ms r
-  side_left ns ms s q h low j k v l r ap1 is sp =
+  -- above the end, the node takes the new link on the side of the way, and its other subtree stays
+  above : (ns ms : List (Node V)) (s : Tree V) (q h low j k : ℕ) (v : V) (l r : Tree V) (e : Side) → ((x : ℕ) → occurs x (fork j k v l r) ≤ 1) → Laid ns (fork j k v l r)
+      → Spliced ns ms s (fork j k v l r) (end q h low (branch e l r)) (last_link q h low (branch e l r) (Some (on j e)))
+      → (slice_get ms j ≡ Some (with_link e (link (put_at s q h low (branch e l r))) (node_of k v (link l) (link r)))) × Laid ms (branch (opposite e) l r)
+  above ns ms s q h low j k v l r e ap1 is sp =
+      let w : Tree V = branch e l r in
+      let n : Node V = node_of k v (link l) (link r) in
       let o : one j j ≡ 1 = one_same j j refl in
-      elim (near s q h low l (Some (on j Left))) [
+      let both = λ (x : ℕ). both_sides x e l r in
+      elim (near s q h low w (Some (on j e))) [
         | stop a b c ↦ (
-          sp.linked j Left (node_of k v (link l) (link r)) c (omega arith) is.0 ∙ ap (λ (x : Tree V). Some (node_of k v (link x) (link r))) (sym a),
-          same ns ms r (λ x i. sp.kept x (omega arith) (omega (arith, ap1 x, cnt_end x q h low l))
-              (λ p side e xp. let f : ◌≡◌ {A = ℕ} (first (Some (on j Left))) (first (Some (on p side))) = ap first (sym c ∙ e) in let g : one x j ≡ 1 = one_same x j (xp ∙ sym f) in omega (arith, ap1 x))) is.2,
+          sp.linked j e n c (omega arith) is.0 ∙ ap (λ (x : Tree V). Some (with_link e (link x) n)) (sym a),
+          same ns ms (branch (opposite e) l r) (λ x i. sp.kept x (omega (arith, both x)) (omega (arith, ap1 x, both x, cnt_end x q h low w))
+              (λ p side e' xp. let f : ◌≡◌ {A = ℕ} (first (Some (on j e))) (first (Some (on p side))) = ap first (sym c ∙ e') in let g : one x j ≡ 1 = one_same x j (xp ∙ sym f) in omega (arith, ap1 x, both x))) (laid_side ns (opposite e) l r is.1 is.2),
         )
         | deep a p side c i ↦ (
-          sp.kept j (omega arith) (omega (arith, ap1 j, cnt_end j q h low l))
-              (λ p' side' e jp. let f : ◌≡◌ {A = ℕ} (first (Some (on p side))) (first (Some (on p' side'))) = ap first (sym c ∙ e) in let g : one p j ≡ 1 = one_same p j (f ∙ sym jp) in omega (arith, ap1 p))
-              ∙ is.0 ∙ ap (λ (x : Option ℕ). Some (node_of k v x (link r))) (sym a),
-          same ns ms r (λ x i'. sp.kept x (omega arith) (omega (arith, ap1 x, cnt_end x q h low l))
-              (λ p' side' e xp. let f : ◌≡◌ {A = ℕ} (first (Some (on p side))) (first (Some (on p' side'))) = ap first (sym c ∙ e) in let g : occurs x l ≡ occurs p l = ap (λ (y : ℕ). occurs y l) (xp ∙ sym f) in omega (arith, ap1 x))) is.2,
-        )
-      ]
-
-  side_right : (ns ms : List (Node V)) (s : Tree V) (q h low j k : ℕ) (v : V) (l r : Tree V) → ((x : ℕ) → occurs x (fork j k v l r) ≤ 1) → Laid ns (fork j k v l r)
-      → Spliced ns ms s (fork j k v l r) (end q h low r) (last_link q h low r (Some (on j Right))) → (slice_get ms j ≡ Some (node_of k v (link l) (link (put_at s q h low r)))) × Laid ms l
-  side_right ns ms s q h low j k v l r ap1 is sp =
-      let o : one j j ≡ 1 = one_same j j refl in
-      elim (near s q h low r (Some (on j Right))) [
-        | stop a b c ↦ (
-          sp.linked j Right (node_of k v (link l) (link r)) c (omega arith) is.0 ∙ ap (λ (x : Tree V). Some (node_of k v (link l) (link x))) (sym a),
-          same ns ms l (λ x i. sp.kept x (omega arith) (omega (arith, ap1 x, cnt_end x q h low r))
-              (λ p side e xp. let f : ◌≡◌ {A = ℕ} (first (Some (on j Right))) (first (Some (on p side))) = ap first (sym c ∙ e) in let g : one x j ≡ 1 = one_same x j (xp ∙ sym f) in omega (arith, ap1 x))) is.1,
-        )
-        | deep a p side c i ↦ (
-          sp.kept j (omega arith) (omega (arith, ap1 j, cnt_end j q h low r))
-              (λ p' side' e jp. let f : ◌≡◌ {A = ℕ} (first (Some (on p side))) (first (Some (on p' side'))) = ap first (sym c ∙ e) in let g : one p j ≡ 1 = one_same p j (f ∙ sym jp) in omega (arith, ap1 p))
-              ∙ is.0 ∙ ap (λ (x : Option ℕ). Some (node_of k v (link l) x)) (sym a),
-          same ns ms l (λ x i'. sp.kept x (omega arith) (omega (arith, ap1 x, cnt_end x q h low r))
-              (λ p' side' e xp. let f : ◌≡◌ {A = ℕ} (first (Some (on p side))) (first (Some (on p' side'))) = ap first (sym c ∙ e) in let g : occurs x r ≡ occurs p r = ap (λ (y : ℕ). occurs y r) (xp ∙ sym f) in omega (arith, ap1 x))) is.1,
+          sp.kept j (omega arith) (omega (arith, ap1 j, both j, cnt_end j q h low w))
+              (λ p' side' e' jp. let f : ◌≡◌ {A = ℕ} (first (Some (on p side))) (first (Some (on p' side'))) = ap first (sym c ∙ e') in let g : one p j ≡ 1 = one_same p j (f ∙ sym jp) in omega (arith, ap1 p, both p))
+              ∙ is.0 ∙ ap Some (own_link e k v l r) ∙ ap (λ (x : Option ℕ). Some (with_link e x n)) (sym a),
+          same ns ms (branch (opposite e) l r) (λ x i'. sp.kept x (omega (arith, both x)) (omega (arith, ap1 x, both x, cnt_end x q h low w))
+              (λ p' side' e' xp. let f : ◌≡◌ {A = ℕ} (first (Some (on p side))) (first (Some (on p' side'))) = ap first (sym c ∙ e') in let g : occurs x w ≡ occurs p w = ap (λ (y : ℕ). occurs y w) (xp ∙ sym f) in omega (arith, ap1 x, both x))) (laid_side ns (opposite e) l r is.1 is.2),
         )
       ]
 
@@ -181,7 +167,7 @@ module _ {V : Type 0} where
     | left ne w en pu la lo ↦ (
         let s1 = subst (λ (x : Tree V). Spliced ns ms s (fork j k v l r) x (last_link q (suc h) low (fork j k v l r) d)) en sp in
         let s2 = subst (λ (x : Option Link). Spliced ns ms s (fork j k v l r) (end q h low l) x) (la d) s1 in
-        let sd = side_left ns ms s q h low j k v l r ap1 is s2 in
+        let sd = above ns ms s q h low j k v l r Left ap1 is s2 in
         subst (Laid ms) (sym pu) (
           sd.0,
           is_at ns ms s q h low (Some (on j Left)) l (λ x. omega (arith, ap1 x)) is.1
@@ -191,7 +177,7 @@ module _ {V : Type 0} where
     | right ne w en pu la lo ↦ (
         let s1 = subst (λ (x : Tree V). Spliced ns ms s (fork j k v l r) x (last_link q (suc h) low (fork j k v l r) d)) en sp in
         let s2 = subst (λ (x : Option Link). Spliced ns ms s (fork j k v l r) (end q h (low + 2 ^ h) r) x) (la d) s1 in
-        let sd = side_right ns ms s q h (low + 2 ^ h) j k v l r ap1 is s2 in
+        let sd = above ns ms s q h (low + 2 ^ h) j k v l r Right ap1 is s2 in
         subst (Laid ms) (sym pu) (
           sd.0,
           sd.1,

@@ -15,7 +15,7 @@ use Rattle.tree.specs.Writes.{child, with_link}
 use Rattle.tree.proofs.Depths.{levels_below}
 use Rattle.tree.proofs.Ends.{first}
 use Rattle.tree.proofs.Entries.{yes_eq, no_eq}
-use Rattle.tree.proofs.Trees.{one_same, At, outside, same, nth_lt}
+use Rattle.tree.proofs.Trees.{branch, opposite, both_sides, laid_side, own_link, one_same, At, outside, same, nth_lt}
 use Rattle.tree.proofs.Steps.{forked, fewer}
 
 pub off_other : (p q : ℕ) (a b : Side) (u : Option Link) → u ≡ Some (on p a) → u ≡ Some (on q b) → p ≡ q
@@ -142,49 +142,43 @@ module _ {V : Type 0} where
     pub kept : (x : ℕ) → 1 ≤ occurs x t → (x ≡ m → ⊥) → ((p : ℕ) (side : Side) → u ≡ Some (on p side) → x ≡ p → ⊥) → slice_get ms x ≡ slice_get ns x
     pub linked : (p : ℕ) (side : Side) (n : Node V) → u ≡ Some (on p side) → 1 ≤ occurs p t → (p ≡ m → ⊥) → slice_get ns p ≡ Some n → slice_get ms p ≡ Some (with_link side None n)
 
+  -- above a foot, the node takes the new link on the foot's side, and its other subtree stays
+  foot_above : (ns ms : List (Node V)) (j k : ℕ) (v : V) (l r : Tree V) (e : Side) (m km : ℕ) (vm : V) (c : Tree V) (u : Option Link) → Foot (branch e l r) (Some (on j e)) m km vm c u → ((x : ℕ) → occurs x (fork j k v l r) ≤ 1) → Laid ns (fork j k v l r)
+      → Freed ns ms (fork j k v l r) m u → (slice_get ms j ≡ Some (with_link e (link c) (node_of k v (link l) (link r)))) × Laid ms (branch (opposite e) l r)
+  foot_above ns ms j k v l r e m km vm c u f a1 is fr =
+      let w : Tree V = branch e l r in
+      let n : Node V = node_of k v (link l) (link r) in
+      let o : one j j ≡ 1 = one_same j j refl in
+      let mm : one m m ≡ 1 = one_same m m refl in
+      let both = λ (x : ℕ). both_sides x e l r in
+      let in_w : occurs m c + one m m ≡ occurs m w = foot_cnt m w (Some (on j e)) m km vm c u f in
+      let jm : j ≡ m → ⊥ = λ q. (let g : one m j ≡ 1 = one_same m j (sym q) in omega (arith, a1 m, both m)) in
+      let xm : (x : ℕ) → 1 ≤ occurs x (branch (opposite e) l r) → x ≡ m → ⊥ = λ x i q. (let g : occurs x (branch (opposite e) l r) ≡ occurs m (branch (opposite e) l r) = ap (λ (y : ℕ). occurs y (branch (opposite e) l r)) q in omega (arith, a1 m, both m)) in
+      let other = laid_side ns (opposite e) l r is.1 is.2 in
+      elim (hold w (Some (on j e)) m km vm c u f) [
+        | all a b ↦ (
+          fr.linked j e n b (omega arith) jm is.0 ∙ ap (λ (x : Tree V). Some (with_link e (link x) n)) (sym a),
+          same ns ms (branch (opposite e) l r) (λ x i. fr.kept x (omega (arith, both x)) (xm x i) (λ p side q xp. let g : one x j ≡ 1 = one_same x j (xp ∙ off_other p j side e u q b) in omega (arith, a1 x, both x))) other,
+        )
+        | part a p side b i ↦ (
+          fr.kept j (omega arith) jm (λ p' side' q jp. let g : one p j ≡ 1 = one_same p j (off_other p p' side side' u b q ∙ sym jp) in omega (arith, a1 p, both p))
+              ∙ is.0 ∙ ap Some (own_link e k v l r) ∙ ap (λ (x : Option ℕ). Some (with_link e x n)) (sym a),
+          same ns ms (branch (opposite e) l r) (λ x i'. fr.kept x (omega (arith, both x)) (xm x i')
+              (λ p' side' q xp. let g : occurs x w ≡ occurs p w = ap (λ (y : ℕ). occurs y w) (xp ∙ off_other p' p side' side u q b) in omega (arith, a1 x, both x))) other,
+        )
+      ]
+
   pub foot-is : (ns ms : List (Node V)) (t : Tree V) (d : Option Link) (m km : ℕ) (vm : V) (c : Tree V) (u : Option Link) → Foot t d m km vm c u → ((x : ℕ) → occurs x t ≤ 1) → Laid ns t → Freed ns ms t m u → Laid ms c
   foot-is ns ms leaf d m km vm c u f a1 is fr = absurd f
   foot-is ns ms (fork j k v l r) d m km vm c u (inl f) a1 is fr = subst (Laid ms) (sym f.5) tt
   foot-is ns ms (fork j k v l r) d m km vm c u (inr (inl f)) a1 is fr =
-      let o : one j j ≡ 1 = one_same j j refl in
-      let mm : one m m ≡ 1 = one_same m m refl in
-      let inl' : occurs m f.0 + one m m ≡ occurs m l = foot_cnt m l (Some (on j Left)) m km vm f.0 u f.1 in
-      let jm : j ≡ m → ⊥ = λ e. (let g : one m j ≡ 1 = one_same m j (sym e) in omega (arith, a1 m)) in
-      let xm : (x : ℕ) → 1 ≤ occurs x r → x ≡ m → ⊥ = λ x i e. (let g : occurs x r ≡ occurs m r = ap (λ (y : ℕ). occurs y r) e in omega (arith, a1 m)) in
+      let top = foot_above ns ms j k v l r Left m km vm f.0 u f.1 a1 is fr in
       let rest = foot-is ns ms l (Some (on j Left)) m km vm f.0 u f.1 (λ x. omega (arith, a1 x)) is.1 (record { kept = λ x i. fr.kept x (omega arith); linked = λ p side n e i. fr.linked p side n e (omega arith) }) in
-      elim (hold l (Some (on j Left)) m km vm f.0 u f.1) [
-        | all a b ↦ subst (Laid ms) (sym f.2) (
-          fr.linked j Left (node_of k v (link l) (link r)) b (omega arith) jm is.0 ∙ ap (λ (x : Tree V). Some (node_of k v (link x) (link r))) (sym a),
-          rest,
-          same ns ms r (λ x i. fr.kept x (omega arith) (xm x i) (λ p side e xp. let g : one x j ≡ 1 = one_same x j (xp ∙ off_other p j side Left u e b) in omega (arith, a1 x))) is.2,
-        )
-        | part a p side b i ↦ subst (Laid ms) (sym f.2) (
-          fr.kept j (omega arith) jm (λ p' side' e jp. let g : one p j ≡ 1 = one_same p j (off_other p p' side side' u b e ∙ sym jp) in omega (arith, a1 p))
-              ∙ is.0 ∙ ap (λ (x : Option ℕ). Some (node_of k v x (link r))) (sym a),
-          rest,
-          same ns ms r (λ x i'. fr.kept x (omega arith) (xm x i') (λ p' side' e xp. let g : occurs x l ≡ occurs p l = ap (λ (y : ℕ). occurs y l) (xp ∙ off_other p' p side' side u e b) in omega (arith, a1 x))) is.2,
-        )
-      ]
+      subst (Laid ms) (sym f.2) (top.0, rest, top.1)
   foot-is ns ms (fork j k v l r) d m km vm c u (inr (inr f)) a1 is fr =
-      let o : one j j ≡ 1 = one_same j j refl in
-      let mm : one m m ≡ 1 = one_same m m refl in
-      let inr' : occurs m f.0 + one m m ≡ occurs m r = foot_cnt m r (Some (on j Right)) m km vm f.0 u f.1 in
-      let jm : j ≡ m → ⊥ = λ e. (let g : one m j ≡ 1 = one_same m j (sym e) in omega (arith, a1 m)) in
-      let xm : (x : ℕ) → 1 ≤ occurs x l → x ≡ m → ⊥ = λ x i e. (let g : occurs x l ≡ occurs m l = ap (λ (y : ℕ). occurs y l) e in omega (arith, a1 m)) in
+      let top = foot_above ns ms j k v l r Right m km vm f.0 u f.1 a1 is fr in
       let rest = foot-is ns ms r (Some (on j Right)) m km vm f.0 u f.1 (λ x. omega (arith, a1 x)) is.2 (record { kept = λ x i. fr.kept x (omega arith); linked = λ p side n e i. fr.linked p side n e (omega arith) }) in
-      elim (hold r (Some (on j Right)) m km vm f.0 u f.1) [
-        | all a b ↦ subst (Laid ms) (sym f.2) (
-          fr.linked j Right (node_of k v (link l) (link r)) b (omega arith) jm is.0 ∙ ap (λ (x : Tree V). Some (node_of k v (link l) (link x))) (sym a),
-          same ns ms l (λ x i. fr.kept x (omega arith) (xm x i) (λ p side e xp. let g : one x j ≡ 1 = one_same x j (xp ∙ off_other p j side Right u e b) in omega (arith, a1 x))) is.1,
-          rest,
-        )
-        | part a p side b i ↦ subst (Laid ms) (sym f.2) (
-          fr.kept j (omega arith) jm (λ p' side' e jp. let g : one p j ≡ 1 = one_same p j (off_other p p' side side' u b e ∙ sym jp) in omega (arith, a1 p))
-              ∙ is.0 ∙ ap (λ (x : Option ℕ). Some (node_of k v (link l) x)) (sym a),
-          same ns ms l (λ x i'. fr.kept x (omega arith) (xm x i') (λ p' side' e xp. let g : occurs x r ≡ occurs p r = ap (λ (y : ℕ). occurs y r) (xp ∙ off_other p' p side' side u e b) in omega (arith, a1 x))) is.1,
-          rest,
-        )
-      ]
+      subst (Laid ms) (sym f.2) (top.0, top.1, rest)
 
   -- a turn of the walk down: a foot of the subtree is one of the whole
   pub record Down (ns : List (Node V)) (bits at : ℕ) (under : Option Link) (s : Tree V) (start : Option Link) : Type 0 where

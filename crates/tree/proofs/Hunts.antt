@@ -18,8 +18,8 @@ use Rattle.tree.proofs.Depths.{tree_high, levels_below, levels_tree}
 use Rattle.tree.proofs.Entries.{yes_lt, no_lt}
 use Rattle.tree.proofs.Finds.{seekable}
 use Rattle.tree.proofs.NewKey.{the_tree}
-use Rattle.tree.proofs.Trees.{or-none, nth_lt}
-use Rattle.tree.proofs.Steps.{forked, fewer, Stand, stand_begin, branch, or_right, step}
+use Rattle.tree.proofs.Trees.{branch, or-none, nth_lt}
+use Rattle.tree.proofs.Steps.{forked, fewer, Stand, stand_begin, or_right, step}
 
 pub lesser-none : (a : Option ℕ) → lesser a None ≡ a
 lesser-none None = refl

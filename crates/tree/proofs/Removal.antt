@@ -19,7 +19,7 @@ use Rattle.tree.proofs.Ends.{end, put_at, way, here, left, right, in_at, cnt_at,
 use Rattle.tree.proofs.Entries.{yes_eq, no_eq, sorted_del, get-del, same_entries, length-del, get, del}
 use Rattle.tree.proofs.Feet.{crown, off_other, foot_cnt, foot-size, foot_in, foot_node, foot-is, foot-crown, all, part, hold, Freed, cnt_crown, size-crown, link-crown, in_crown, Crowned, crowned}
 use Rattle.tree.proofs.NewKey.{the_tree, get_tree, same_chain, off_of}
-use Rattle.tree.proofs.Trees.{or-none, occurs-within, one_same, At, at_left, at_right, outside, same, sorted_pour, nth_lt}
+use Rattle.tree.proofs.Trees.{branch, both_sides, own_link, or-none, occurs-within, one_same, At, at_left, at_right, outside, same, sorted_pour, nth_lt}
 
 abbrev pub second : Option Link → Side
 second None = Left
@@ -39,6 +39,9 @@ module _ {V : Type 0} where
     pub is : Laid ns s
     pub once : Distinct s
 
+  deeper : (ns : List (Node V)) (q h i : ℕ) (s : Tree V) → Top ns q h i s → Top ns q (suc h) i s
+  deeper ns q h i s m = record { v = m.v; l = m.l; r = m.r; top = m.top; h' = m.h'; low' = m.low'; less = omega (arith, m.less); inside = m.inside; is = m.is; once = m.once }
+
   pub topped : (ns : List (Node V)) (q h low i : ℕ) (t : Tree V) → Inside h low t → Laid ns t → Distinct t → place_of q h low t ≡ Some i → Top ns q h i (end q h low t)
   topped ns q h low i leaf inn is o e = cc
   topped ns q zero low i (fork j k v l r) inn is o e = ⊎_elim
@@ -49,10 +52,8 @@ module _ {V : Type 0} where
   topped ns q (suc h) low i (fork j k v l r) inn is o e = elim (way leaf q h low j k v l r) [
     | here kq en pu la lo ↦ (let f : Some j ≡ Some i = sym lo ∙ e in let ji : j ≡ i = cc in
         subst (Top ns q (suc h) i) (sym en) (record { v = v; l = l; r = r; top = ap (λ (x : ℕ). fork x k v l r) ji ∙ ap (λ (x : ℕ). fork i x v l r) kq; h' = suc h; low' = low; less = omega arith; inside = inn; is = is; once = o }))
-    | left ne w en pu la lo ↦ (let m = topped ns q h low i l inn.2 is.1 o.2 (sym lo ∙ e) in
-        subst (Top ns q (suc h) i) (sym en) (record { v = m.v; l = m.l; r = m.r; top = m.top; h' = m.h'; low' = m.low'; less = omega (arith, m.less); inside = m.inside; is = m.is; once = m.once }))
-    | right ne w en pu la lo ↦ (let m = topped ns q h (low + 2 ^ h) i r inn.3 is.2 o.3 (sym lo ∙ e) in
-        subst (Top ns q (suc h) i) (sym en) (record { v = m.v; l = m.l; r = m.r; top = m.top; h' = m.h'; low' = m.low'; less = omega (arith, m.less); inside = m.inside; is = m.is; once = m.once }))
+    | left ne w en pu la lo ↦ subst (Top ns q (suc h) i) (sym en) (deeper ns q h i _ (topped ns q h low i l inn.2 is.1 o.2 (sym lo ∙ e)))
+    | right ne w en pu la lo ↦ subst (Top ns q (suc h) i) (sym en) (deeper ns q h i _ (topped ns q h (low + 2 ^ h) i r inn.3 is.2 o.3 (sym lo ∙ e)))
   ]
 
   -- the last link stands above the end of the walk, and leads there
@@ -60,26 +61,26 @@ module _ {V : Type 0} where
     begins : last_link q h low t d ≡ d → end q h low t ≡ t → Lead ns q h low t d
     leads : (p : ℕ) (side : Side) → last_link q h low t d ≡ Some (on p side) → 1 ≤ occurs p t → occurs p (end q h low t) ≡ 0 → ((n : Node V) → slice_get ns p ≡ Some n → with_link side (link (end q h low t)) n ≡ n) → Lead ns q h low t d
 
+  lead_side : (ns : List (Node V)) (q h h' low low' j k : ℕ) (v : V) (l r : Tree V) (d : Option Link) (e : Side) → ((x : ℕ) → occurs x (fork j k v l r) ≤ 1) → Laid ns (fork j k v l r)
+      → end q h low (fork j k v l r) ≡ end q h' low' (branch e l r) → last_link q h low (fork j k v l r) d ≡ last_link q h' low' (branch e l r) (Some (on j e)) → Lead ns q h' low' (branch e l r) (Some (on j e)) → Lead ns q h low (fork j k v l r) d
+  lead_side ns q h h' low low' j k v l r d e a1 is en la ld =
+      let o : one j j ≡ 1 = one_same j j refl in
+      let both = λ (x : ℕ). both_sides x e l r in
+      elim ld [
+        | begins a b ↦ leads j e (la ∙ a) (omega arith) (let g = ap (occurs j) (en ∙ b) in omega (arith, g, a1 j, both j))
+            (λ n at. let ev : n ≡ node_of k v (link l) (link r) = (let is0 : slice_get ns j ≡ Some (node_of k v (link l) (link r)) = is.0 in cc) in
+            ap (λ (x : Tree V). with_link e (link x) n) (en ∙ b) ∙ ap (λ (x : Node V). with_link e (link (branch e l r)) x) ev ∙ sym (own_link e k v l r) ∙ sym ev)
+        | leads p side a i z f ↦ leads p side (la ∙ a) (omega (arith, both p)) (ap (occurs p) en ∙ z) (λ n at. ap (λ (x : Tree V). with_link side (link x) n) en ∙ f n at)
+      ]
+
   pub lead : (ns : List (Node V)) (q h low : ℕ) (t : Tree V) (d : Option Link) → ((x : ℕ) → occurs x t ≤ 1) → Laid ns t → Lead ns q h low t d
   lead ns q h low leaf d a1 is = begins refl refl
   lead ns q zero low (fork j k v l r) d a1 is = begins refl refl
-  lead ns q (suc h) low (fork j k v l r) d a1 is =
-      let o : one j j ≡ 1 = one_same j j refl in
-      elim (way leaf q h low j k v l r) [
-        | here kq en pu la lo ↦ begins (la d) en
-        | left ne w en pu la lo ↦ elim (lead ns q h low l (Some (on j Left)) (λ x. omega (arith, a1 x)) is.1) [
-          | begins a b ↦ leads j Left (la d ∙ a) (omega arith) (let g = ap (occurs j) (en ∙ b) in omega (arith, g, a1 j))
-              (λ n e. let ev : n ≡ node_of k v (link l) (link r) = (let is0 : slice_get ns j ≡ Some (node_of k v (link l) (link r)) = is.0 in cc) in
-              ap (λ (x : Tree V). with_link Left (link x) n) (en ∙ b) ∙ ap (λ (x : Node V). with_link Left (link l) x) ev ∙ sym ev)
-          | leads p side a i z f ↦ leads p side (la d ∙ a) (omega arith) (ap (occurs p) en ∙ z) (λ n e. ap (λ (x : Tree V). with_link side (link x) n) en ∙ f n e)
-        ]
-        | right ne w en pu la lo ↦ elim (lead ns q h (low + 2 ^ h) r (Some (on j Right)) (λ x. omega (arith, a1 x)) is.2) [
-          | begins a b ↦ leads j Right (la d ∙ a) (omega arith) (let g = ap (occurs j) (en ∙ b) in omega (arith, g, a1 j))
-              (λ n e. let ev : n ≡ node_of k v (link l) (link r) = (let is0 : slice_get ns j ≡ Some (node_of k v (link l) (link r)) = is.0 in cc) in
-              ap (λ (x : Tree V). with_link Right (link x) n) (en ∙ b) ∙ ap (λ (x : Node V). with_link Right (link r) x) ev ∙ sym ev)
-          | leads p side a i z f ↦ leads p side (la d ∙ a) (omega arith) (ap (occurs p) en ∙ z) (λ n e. ap (λ (x : Tree V). with_link side (link x) n) en ∙ f n e)
-        ]
-      ]
+  lead ns q (suc h) low (fork j k v l r) d a1 is = elim (way leaf q h low j k v l r) [
+    | here kq en pu la lo ↦ begins (la d) en
+    | left ne w en pu la lo ↦ lead_side ns q (suc h) h low low j k v l r d Left a1 is en (la d) (lead ns q h low l (Some (on j Left)) (λ x. omega (arith, a1 x)) is.1)
+    | right ne w en pu la lo ↦ lead_side ns q (suc h) h low (low + 2 ^ h) j k v l r d Right a1 is en (la d) (lead ns q h (low + 2 ^ h) r (Some (on j Right)) (λ x. omega (arith, a1 x)) is.2)
+  ]
 
   pub sub_tree : (ns : List (Node V)) (h : Head) (u : WellFormed ns h) (q i : ℕ) → Top ns q h.width.bits i (end q h.width.bits 0 u.t) → Levels h.width.bits (end q h.width.bits 0 u.t) × (tree_below (suc h.width.bits) ns (Some i) ≡ end q h.width.bits 0 u.t) × (Some i ≡ link (end q h.width.bits 0 u.t))
   sub_tree ns h u q i t =

@@ -14,7 +14,7 @@ use Rattle.tree.specs.Writes.{child, low_on}
 use Rattle.tree.proofs.Above.{next}
 use Rattle.tree.proofs.Depths.{in_high, tree_high, levels_below}
 use Rattle.tree.proofs.Entries.{no_eq, yes_lt, no_lt}
-use Rattle.tree.proofs.Trees.{nth_lt}
+use Rattle.tree.proofs.Trees.{branch, nth_lt}
 
 abbrev pub half_of : ℕ → ℕ
 half_of zero = 0
@@ -88,11 +88,6 @@ module _ {V : Type 0} where
 
   pub stand-fewer : {ns : List (Node V)} {q bits low half h i : ℕ} {at : Option ℕ} {t : Tree V} (n : Node V) (s : Side) → Stand ns q bits at low half h t → at ≡ Some i → slice_get ns i ≡ Some n → size (tree_below (suc bits) ns (child s n)) < size (tree_below (suc bits) ns at)
   stand-fewer {ns} {bits = bits} {low} {h = h} {i} {t = t} n s u e nt = rw e (fewer ns bits i t n s (sym e ∙ u.at-is) u.is (in_high h low bits t u.inside u.within) nt)
-
-  -- the subtree on a side
-  abbrev pub branch : Side → Tree V → Tree V → Tree V
-  branch Left l r = l
-  branch Right l r = r
 
   -- the step from the node at i, and what the searches from there on come to
   pub record Step (ns : List (Node V)) (q bits : ℕ) (n : Node V) (s : Side) (i low half h : ℕ) (t : Tree V) : Type 0 where

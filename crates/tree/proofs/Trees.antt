@@ -6,8 +6,11 @@ use Rattle.std.proofs.lemmas.Bool.{cases_lt, cases_eq}
 use Rattle.std.proofs.lemmas.Option.{slice_get_past, slice_get_read}
 use Rattle.std.specs.List.{slice_get}
 use Rattle.std.specs.Option.{option_or}
+use Rattle.tree.specs.declared.links.Side.{Side}
+use Rattle.tree.specs.declared.links.Side.TheVariants.{Left, Right}
 use Rattle.tree.specs.declared.node.Node.{Node}
-use Rattle.tree.specs.Tree.{Tree, leaf, fork, Laid, Inside, place_of, pour, occurs, one, record_of}
+use Rattle.tree.specs.Tree.{Tree, leaf, fork, Laid, Inside, place_of, pour, occurs, one, record_of, node_of, link}
+use Rattle.tree.specs.Writes.{with_link}
 use Rattle.tree.proofs.Entries.{get, Sorted, yes_eq, no_eq, yes_lt, no_lt, sorted_ins, get-ins}
 
 pub one_same : (x j : ℕ) → x ≡ j → one x j ≡ 1
@@ -30,7 +33,29 @@ at_left q h low a w = (a.0, w)
 pub at_right : (q h low : ℕ) → At q (suc h) low → low + 2 ^ h ≤ q → At q h (low + 2 ^ h)
 at_right q h low a w = let b : q < low + 2 ^ suc h = a.1 in (w, omega (arith, two-pow-succ h))
 
+abbrev pub opposite : Side → Side
+opposite Left = Right
+opposite Right = Left
+
 module _ {V : Type 0} where
+  -- the subtree on a side, of the left one and the right one
+  abbrev pub branch : Side → Tree V → Tree V → Tree V
+  branch Left l r = l
+  branch Right l r = r
+
+  pub both_sides : (x : ℕ) (e : Side) (l r : Tree V) → occurs x (branch e l r) + occurs x (branch (opposite e) l r) ≡ occurs x l + occurs x r
+  both_sides x Left l r = refl
+  both_sides x Right l r = omega arith
+
+  pub laid_side : (ns : List (Node V)) (e : Side) (l r : Tree V) → Laid ns l → Laid ns r → Laid ns (branch e l r)
+  laid_side ns Left l r a b = a
+  laid_side ns Right l r a b = b
+
+  -- a node already has its own links
+  pub own_link : (e : Side) (k : ℕ) (v : V) (l r : Tree V) → node_of k v (link l) (link r) ≡ with_link e (link (branch e l r)) (node_of k v (link l) (link r))
+  own_link Left k v l r = refl
+  own_link Right k v l r = refl
+
   pub get-pour : (q : ℕ) (t : Tree V) (es : List (ℕ × V)) → get q (pour t es) ≡ option_or (record_of q t) (get q es)
   get-pour q leaf es = refl
   get-pour q (fork j k v l r) es =

@@ -9,7 +9,8 @@ use Rattle.tree.specs.declared.node.Node.{Node}
 use Rattle.tree.specs.Tree.{Tree, leaf, fork, node_of, link, Laid, Inside, place_of, last_link, on}
 use Rattle.tree.specs.Writes.{child, low_on}
 use Rattle.tree.proofs.Entries.{yes_eq}
-use Rattle.tree.proofs.Steps.{forked, Stand, stand_begin, branch, step}
+use Rattle.tree.proofs.Steps.{forked, Stand, stand_begin, step}
+use Rattle.tree.proofs.Trees.{branch}
 
 module _ {V : Type 0} where
   -- where the walk has come to: a subtree at which the answers are still to be found

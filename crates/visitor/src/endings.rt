@@ -19,6 +19,7 @@ fn unlocate<S: RecordStore<Imsi, Record>>(store: &mut S, id: HlrId) -> u64
 {
     let mut count = 0;
     let mut last: Option<Imsi> = None;
+    // a store lends no iterator while it is put to, so the walk goes from key to key
     while let Some(imsi) = store.next(&last) {
         if imsi.begins_with(id) {
             let record = store.find(imsi).unwrap();

@@ -120,6 +120,7 @@ impl<S: RecordStore<Imsi, Record>> Vlr<S> {
         ensures answer { result ≡ planned_answer self.old imsi.number (updating self.old imsi.number) }
         ensures after { self.new ≡ planned_after self.old imsi.number (updating self.old imsi.number) }
     {
+        // the name alone gets no proof here, since the function is another crate's
         self.planned(imsi, Kind::StandAlone, |old, busy| plan_update(old, busy))
     }
 

@@ -44,16 +44,14 @@ impl<S: RecordStore<Imsi, Record>> Vlr<S> {
     fn fits(&self, imsi: Imsi, kept: Option<Record>) -> Result<(), Refusal>
         ensures { FitsSays self.now imsi.number kept result }
     {
-        match kept {
-            Some(_) => room_for(&self.store, imsi),
-            None => Ok(()),
-        }
+        kept.map_or(Ok(()), |_| room_for(&self.store, imsi))
     }
 
     /// Keeps the record, if there is one.
     pub(crate) fn keep(&mut self, imsi: Imsi, kept: Option<Record>) -> Result<(), Refusal>
         ensures { KeepSays self.old imsi.number kept result self.new }
     {
+        // a closure that puts leaves what the store is afterwards unproved, so this is no `map_or`
         match kept {
             Some(record) => self.store.put(imsi, record),
             None => Ok(()),
