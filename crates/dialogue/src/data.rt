@@ -11,6 +11,7 @@ pub enum Status {
     Barred,
 }
 
+// Of one shape with others: a conversion is written for its type, and no macro of our own may write it.
 impl TryFrom<u8> for Status {
     type Error = Refusal;
 

@@ -9,6 +9,7 @@ use key::Refusal;
 use std::fmt;
 
 /// How far a dialogue has come. Where it is gone, its row is free.
+// No `Option` of a row: the project fixed an array of rows, and these four stages.
 #[derive(Clone, Copy, PartialEq, Eq, Debug)]
 pub enum Stage {
     Gone,
@@ -24,6 +25,7 @@ pub enum Stage {
 #[derive(Clone, Copy, PartialEq, Eq, Debug)]
 pub struct Dialogue {
     pub number: u32,
+    // a plain number: any dialogue can be made by hand, and what a table holds keeps to the range
     pub imsi: u64,
     pub kind: Kind,
     pub stage: Stage,

@@ -78,6 +78,7 @@ pub struct Answer {
     pub subject: Subject,
 }
 
+// Of one shape with the two below: a conversion is written for its type, and no macro of our own may write it.
 impl From<Reply> for u8 {
     ghost from_gives = { λ reply n. n ≡ reply_number reply };
 

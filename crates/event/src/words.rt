@@ -26,6 +26,7 @@ impl Event<'_> {
 }
 
 /// A contact of a handset, before its area.
+// Plain numbers, as the event holds them: what they stand for is named in a crate above.
 fn contact<W: fmt::Write>(f: &mut fmt::Formatter<W>, imsi: u64, auth: u8, msc: u8) -> fmt::Result {
     let auth = if auth == 1 {
         "authenticated"

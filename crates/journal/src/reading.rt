@@ -7,9 +7,10 @@ use crate::hex::read_bytes;
 use std::alloc::Global;
 use std::str::{FromStr, SplitWhitespace};
 
-/// No store has more room.
+/// No store has more room; a journal is read without one.
 const MOST_ROOM: usize = 65_536;
 
+// Of one shape with the next: a conversion is written for its type, and no macro of our own may write it.
 impl FromStr for Exchanges {
     type Err = Fault;
 
@@ -48,11 +49,7 @@ where
 
 /// It is the line's fault where more words follow.
 fn end(mut words: SplitWhitespace<'_>, fault: Fault) -> Result<(), Fault> {
-    // `map_or` with an `Ok` for nothing reads no plainer
-    match words.next() {
-        Some(_) => Err(fault),
-        None => Ok(()),
-    }
+    words.next().map_or(Ok(()), |_| Err(fault))
 }
 
 fn read_visitor(mut words: SplitWhitespace<'_>) -> Result<Visitor, Fault> {

@@ -19,10 +19,11 @@ impl HlrId {
     pub fn new(digits: u8, value: u64) -> Option<HlrId>
         ensures { by_digits result ≡ (if is_hlr_id digits value then Some (digits, value) else None) }
     {
-        if digits < FEWEST_DIGITS || digits > IMSI_DIGITS {
+        if !(FEWEST_DIGITS..=IMSI_DIGITS).contains(&digits) {
             return None;
         }
-        if value < 10u64.pow(digits as u32) {
+        // no `then`: its closure does not know the test that the ghost field needs
+        if value < 10u64.pow(u32::from(digits)) {
             Some(HlrId { digits, value })
         } else {
             None
@@ -35,7 +36,7 @@ impl Imsi {
     fn leading(self, id: HlrId) -> u64
         ensures { result ≡ self.number / 10 ^ (15 - id.digits) }
     {
-        let others = (IMSI_DIGITS - id.digits) as u32;
+        let others = u32::from(IMSI_DIGITS - id.digits);
         self.number() / 10u64.pow(others)
     }
 

@@ -91,7 +91,7 @@ impl Key for Tmsi {
     ghost number = { λ k. k.number };
 
     fn to_number(self) -> u64 {
-        self.number as u64
+        u64::from(self.number)
     }
 
     fn from_number(n: u64) -> Option<Tmsi> {

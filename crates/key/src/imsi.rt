@@ -16,6 +16,7 @@ impl Imsi {
     pub fn new(number: u64) -> Option<Imsi>
         ensures { MatchOption result (1000000000000000 ≤ number) (λ imsi. imsi.number ≡ number) }
     {
+        // no `then`: its closure does not know the test that the ghost field needs
         if number < IMSI_LIMIT {
             Some(Imsi { number })
         } else {

@@ -11,7 +11,7 @@ use crate::refusal::Refusal;
 fn with_byte(number: u64, byte: u8) -> u64
     ensures { result ≡ (number * 256 + byte) % 2 ^ 64 }
 {
-    number.wrapping_mul(256).wrapping_add(byte as u64)
+    number.wrapping_mul(256).wrapping_add(u64::from(byte))
 }
 
 /// The number that the bytes write; of more than eight bytes, what 64 bits hold of it.

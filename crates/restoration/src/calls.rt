@@ -7,6 +7,7 @@ use crate::record::{Indicator, Record};
 use event::{Handling, Kind, Reply};
 
 /// Provide Roaming Number at a register of one MSC or several; `busy` tells whether Restore Data is open.
+// Truth values: `several` is one in the state that the laws speak of, and `busy` is what a table answers.
 pub fn plan_roaming_number(several: bool, old: Option<Record>, busy: bool) -> Plan
     ensures { result ≡ roaming_number_plan several old busy }
 {

@@ -16,6 +16,7 @@ pub enum Auth {
     Passed,
 }
 
+// Of one shape with others: a conversion is written for its type, and no macro of our own may write it.
 impl TryFrom<u8> for Auth {
     type Error = Refusal;
 
@@ -59,7 +60,7 @@ fn plan_contact(
     }
 }
 
-// The operands of a contact stay apart: Outgoing tells no area, so a struct of them would be taken apart at once.
+// The operands of a contact stay apart: each goes to another field at once, and Outgoing tells no area.
 /// The handset answered a page or a search; `busy` tells whether Update Location is open.
 pub fn plan_access(old: Option<Record>, auth: Auth, msc: u8, area: u16, busy: bool) -> Plan
     ensures { result ≡ access_plan old auth msc area busy }

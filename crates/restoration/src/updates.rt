@@ -16,6 +16,7 @@ pub enum Outcome {
     NotWell,
 }
 
+// Of one shape with others: a conversion is written for its type, and no macro of our own may write it.
 impl TryFrom<u8> for Outcome {
     type Error = Refusal;
 

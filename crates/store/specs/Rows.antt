@@ -1,5 +1,5 @@
 -- Rows in key order: the map that they stand for, and which slots a change writes. Assumes nothing.
-use Rattle.std.specs.Prelude.{◌≡◌, ℕ, ◌+◌, ◌-◌, ◌<◌, false, cond, List, ◌∷◌, ◌++◌, map, length, take, drop, Ok, Err, Result, nat_lt, slice_index, slice_set}
+use Rattle.std.specs.Prelude.{◌≡◌, ℕ, ◌+◌, ◌-◌, ◌<◌, false, cond, List, ◌∷◌, ◌++◌, map, length, take, drop, Some, None, Ok, Err, Option, Result, nat_lt, slice_index, slice_set}
 use Rattle.store.specs.declared.row.Row.{Row}
 use Rattle.store.specs.Model.{Placed, keys, holds, takes, tally}
 
@@ -34,3 +34,8 @@ drop_slots slots n k = cond (holds (held slots n) k) (closed slots n (rank (held
 abbrev pub PlaceSays : {V : Type 0} → List (ℕ × V) → ℕ → Result ℕ ℕ → Type 0
 PlaceSays es k (Ok i) = Placed es k i × (i < length es) × (slice_index (keys es) i ≡ k)
 PlaceSays es k (Err i) = Placed es k i × (holds es k ≡ false)
+
+-- where the row of k stands, if it does
+abbrev pub StandsAt : {V : Type 0} → List (ℕ × V) → ℕ → Option ℕ → Type 0
+StandsAt es k (Some i) = PlaceSays es k (Ok i)
+StandsAt es k None = holds es k ≡ false

@@ -21,6 +21,7 @@ fn copy<K: Key, V: Copy, A: RecordStore<K, V>, B: RecordStore<K, V>>(
     }
     to.clear();
     let mut last: Option<K> = None;
+    // from key to key: no iterator promises which keys a store answers
     while let Some(k) = from.next(&last) {
         let v = from.find(k).unwrap();
         to.put(k, v).unwrap();
@@ -41,14 +42,12 @@ pub struct Backed<K: Key, V: Copy, L: RecordStore<K, V>, B: RecordStore<K, V>> {
 
 impl<K: Key, V: Copy, L: RecordStore<K, V>, B: RecordStore<K, V>> Backed<K, V, L, B> {
     /// Both stores emptied, so that the back-up fits the live room.
-    pub fn over(live: L, back: B) -> Backed<K, V, L, B>
+    pub fn over(mut live: L, mut back: B) -> Backed<K, V, L, B>
         ensures room { L.room result.live ≡ L.room live }
         ensures entries { L.entries result.live ≡ [] }
         ensures back_room { B.room result.back ≡ B.room back }
         ensures back { B.entries result.back ≡ [] }
     {
-        let mut live = live;
-        let mut back = back;
         live.clear();
         back.clear();
         Backed {

@@ -1,7 +1,7 @@
 //! Rows in key order by a key's plain number: looking for a row, putting one in, taking one out.
 ghost use Rattle.std.specs.Prelude.{◌≡◌, ◌<◌, vec_len};
 ghost use Rattle.store.specs.Model.{at, first_from, holds, without, PutSays};
-ghost use Rattle.store.specs.Rows.{held, PlaceSays, put_slots, drop_slots};
+ghost use Rattle.store.specs.Rows.{held, PlaceSays, StandsAt, put_slots, drop_slots};
 
 use crate::row::Row;
 use crate::rows::Rows;
@@ -28,6 +28,7 @@ impl<K: Key, V: Copy> Rows<K, V> {
         ensures { result ≡ first_from (held self.now.rows.items self.now.len) from }
     {
         let (Ok(i) | Err(i)) = self.place(from);
+        // `get(i).map(..)` over a part of the rows reads no plainer
         if i < self.len {
             Some(self.rows[i].key)
         } else {
@@ -54,6 +55,13 @@ impl<K: Key, V: Copy> Rows<K, V> {
         Ok(())
     }
 
+    /// Where the row to be dropped stands, if it does.
+    fn standing(&self, key: u64) -> Option<usize>
+        ensures { StandsAt (held self.now.rows.items self.now.len) key result }
+    {
+        self.place(key).ok()
+    }
+
     /// Drops the row at the key, and tells whether there was one.
     pub(crate) fn remove_row(&mut self, key: u64) -> bool
         ensures room { vec_len self.new.rows ≡ vec_len self.old.rows }
@@ -61,7 +69,7 @@ impl<K: Key, V: Copy> Rows<K, V> {
         ensures entries { held self.new.rows.items self.new.len ≡ without (held self.old.rows.items self.old.len) key }
         ensures slots { self.new.rows.items ≡ drop_slots self.old.rows.items self.old.len key }
     {
-        let Ok(i) = self.place(key) else {
+        let Some(i) = self.standing(key) else {
             return false;
         };
         self.rows.copy_within(i + 1..self.len, i);

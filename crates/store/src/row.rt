@@ -5,6 +5,7 @@ ghost use Rattle.store.specs.Rows.{as_pair};
 /// A slot for one record. The owner of the memory makes spare rows; only a store reads or writes them.
 #[derive(Clone, Copy)]
 pub struct Row<V> {
+    // a number and no key: a spare row holds none
     pub(crate) key: u64,
     pub(crate) value: V,
 }

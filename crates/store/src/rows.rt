@@ -11,6 +11,7 @@ use std::marker::PhantomData;
 #[derive(Drop)]
 pub struct Rows<K: Key, V> {
     pub(crate) rows: Vec<Row<V>>,
+    // a count beside the rows: the memory handed in keeps its length, since a store never allocates
     pub(crate) len: usize,
     pub(crate) of: PhantomData<K>,
     ghost small: { vec_len rows ≤ 65536 },

@@ -13,12 +13,11 @@ use std::marker::PhantomData;
 
 impl<K: Key, V: Copy> Rows<K, V> {
     /// An empty store in the memory handed in, of which it uses at most 65,536 rows.
-    pub fn over(rows: Vec<Row<V>>) -> Rows<K, V>
+    pub fn over(mut rows: Vec<Row<V>>) -> Rows<K, V>
         ensures room { vec_len result.rows ≡ capped (vec_len rows) }
         ensures entries { held result.rows.items result.len ≡ [] }
         ensures slots { result.rows.items ≡ take 65536 rows.items }
     {
-        let mut rows = rows;
         rows.truncate(MOST_ROOM);
         Rows {
             rows,

@@ -8,6 +8,7 @@ use crate::width::Width;
 
 /// Where the tree and the list of freed nodes begin, the place from which on no node was ever used, how many nodes
 /// hold a record, and how many binary digits a key has.
+// Places and counts in memory that was handed in: a store never allocates.
 #[derive(Clone, Copy)]
 pub(crate) struct Head {
     pub(crate) root: Option<u16>,

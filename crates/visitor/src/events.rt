@@ -43,7 +43,6 @@ impl<S: RecordStore<Imsi, Record>> Vlr<S> {
         })
     }
 
-    // The four events below keep methods of their own, since each is called by its name; this is what they share.
     /// How to reach the subscriber; `unknown` is the reply where that is not known.
     fn reach(&self, imsi: Imsi, unknown: Reply) -> Answer
         ensures { result ≡ reached self.now imsi.number unknown }
@@ -51,6 +50,7 @@ impl<S: RecordStore<Imsi, Record>> Vlr<S> {
         plan_reach(unknown, self.store.find(imsi)).answer(imsi.number(), None)
     }
 
+    // Each of the next four is called by its name, and is one line over what they share.
     /// The exchange asks how to reach the called subscriber.
     pub fn call_information(&self, imsi: Imsi) -> Answer
         ensures { result ≡ reached self.now imsi.number SystemFailure }

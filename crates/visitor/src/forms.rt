@@ -85,6 +85,7 @@ impl<S: RecordStore<Imsi, Record>> Vlr<S> {
         self.act(event).map(Handed::of)
     }
 
+    // Sending and withdrawing are called by their names, and are one line each.
     /// Sends an invoke, and tells whether it went: where no unsent dialogue of its number is open, nothing changes.
     pub fn send(&mut self, invoke: Invoke) -> bool
         ensures answer { result ≡ spending_answer self.old invoke.dialogue send }

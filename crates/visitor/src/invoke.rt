@@ -6,7 +6,7 @@ ghost use Rattle.restoration.specs.Steps.{invoke_of};
 
 use event::{Answer, Kind, Opened};
 
-/// It cannot be let go before it is spent, and it can be spent only once. The flag stays: the project fixed that the
+/// It cannot be let go before it is spent, and it can be spent only once. The flag is there since the project fixed that the
 /// drop demands it.
 pub struct Invoke {
     dialogue: u32,

@@ -10,6 +10,7 @@ use event::Kind;
 use key::{Imsi, Refusal};
 
 /// A row that no dialogue has.
+// A constant calls no `default()`.
 const FREE: Dialogue = Dialogue {
     number: 0,
     imsi: 0,

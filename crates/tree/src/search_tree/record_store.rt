@@ -30,6 +30,7 @@ impl<K: Key, V: Copy> RecordStore<K, V> for SearchTree<K, V> {
     }
 
     fn next(&self, above: &Option<K>) -> Option<K> {
+        // `map_or_else` with two closures reads no plainer
         let found = match *above {
             Some(k) => self.least_above(k),
             None => self.least(),
