@@ -15,8 +15,8 @@ const MOST_DIALOGUES: usize = 64;
 impl<S: RecordStore<Imsi, Record>> Site<S> {
     fn show_records(&self, line: Line) -> io::Result<()> {
         let register = &self.register;
-        let first = register.next_subscriber(&None);
-        let subscribers = successors(first, |last| register.next_subscriber(&Some(*last)));
+        let first = register.next_subscriber(None);
+        let subscribers = successors(first, |last| register.next_subscriber(Some(*last)));
         for imsi in subscribers.take(MOST_ROOM) {
             if let Some(record) = register.record(imsi) {
                 let Record {

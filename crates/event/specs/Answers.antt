@@ -1,5 +1,5 @@
--- The numbers of an answer, case by case, and its sixteen bytes. Assumes nothing.
-use Rattle.std.specs.Prelude.{ℕ, ◌+◌, cond, List, [], ◌∷◌, ◌++◌, length, drop, Some, None, Option, nat_lt}
+-- The numbers and the words of an answer, case by case, and its sixteen bytes. Assumes nothing.
+use Rattle.std.specs.Prelude.{ℕ, ◌+◌, cond, List, [], ◌∷◌, ◌++◌, length, drop, Some, None, Option, nat_lt, codes}
 use Rattle.key.specs.Figures.{in_bytes}
 use Rattle.event.specs.declared.answer.Reply.{Reply}
 use Rattle.event.specs.declared.answer.Reply.TheVariants.{Done, UnidentifiedSubscriber, IllegalSubscriber, SystemFailure, DataMissing, UnexpectedDataValue}
@@ -61,3 +61,17 @@ answer_bytes a = answer_head a ++ (in_bytes 4 (dialogue_shown a.opened) ++ in_by
 -- an area after the answer is written to its front; one that is too short is as it was
 abbrev pub written_into : List ℕ → Answer → List ℕ
 written_into area a = cond (nat_lt (length area) 16) area (answer_bytes a ++ drop 16 area)
+
+-- the words of a reply, and the short word of a kind
+abbrev pub reply_text : Reply → List ℕ
+reply_text Done = codes "done"
+reply_text UnidentifiedSubscriber = codes "unidentified subscriber"
+reply_text IllegalSubscriber = codes "illegal subscriber"
+reply_text SystemFailure = codes "system failure"
+reply_text DataMissing = codes "data missing"
+reply_text UnexpectedDataValue = codes "unexpected data value"
+
+abbrev pub kind_text : Kind → List ℕ
+kind_text RestoreData = codes "restore"
+kind_text UpdateLocation = codes "update"
+kind_text StandAlone = codes "stand-alone"

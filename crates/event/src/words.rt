@@ -1,4 +1,8 @@
-//! Words for people: events and answers as they are printed. Printing promises nothing.
+//! Words for people: events and answers as they are printed. Of a reply and of a kind the words are promised; a sentence that is made of them, with
+//! numbers between, is tested.
+ghost use Rattle.std.specs.Prelude.{Some};
+ghost use Rattle.event.specs.Answers.{reply_text, kind_text};
+
 use crate::answer::{Answer, Handling, Ignored, Kind, Opened, Reply};
 use crate::events::Event;
 use std::fmt;
@@ -88,6 +92,8 @@ impl fmt::Display for Event<'_> {
 }
 
 impl fmt::Display for Reply {
+    ghost output = { λ reply. Some (reply_text reply) };
+
     fn fmt<W: fmt::Write>(&self, f: &mut fmt::Formatter<W>) -> fmt::Result {
         f.write_str(match self {
             Reply::Done => "done",
@@ -102,6 +108,8 @@ impl fmt::Display for Reply {
 
 /// A dialogue in a list, in one word for its kind.
 impl fmt::Display for Kind {
+    ghost output = { λ kind. Some (kind_text kind) };
+
     fn fmt<W: fmt::Write>(&self, f: &mut fmt::Formatter<W>) -> fmt::Result {
         f.write_str(match self {
             Kind::RestoreData => "restore",

@@ -25,6 +25,11 @@ pub enum Fault {
 
 /// What was expected.
 impl fmt::Display for Fault {
+    ghost use Rattle.journal.specs.Faults.{fault_text};
+    ghost use Rattle.std.specs.Prelude.{Some};
+
+    ghost output = { λ fault. Some (fault_text fault) };
+
     fn fmt<W: fmt::Write>(&self, f: &mut fmt::Formatter<W>) -> fmt::Result {
         f.write_str(match self {
             Fault::Call => "expected visitor, event, direct, send, withdraw or show",

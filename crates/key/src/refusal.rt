@@ -1,6 +1,6 @@
 //! Why a call is refused. There is one list of reasons for all layers, so that a reason passes up through them unchanged.
-ghost use Rattle.std.specs.Prelude.{◌≡◌};
-ghost use Rattle.key.specs.Refusals.{refusal_number};
+ghost use Rattle.std.specs.Prelude.{◌≡◌, Some};
+ghost use Rattle.key.specs.Refusals.{refusal_number, refusal_text};
 
 use std::error::Error;
 use std::fmt;
@@ -40,8 +40,10 @@ impl From<Refusal> for u8 {
 }
 
 impl fmt::Display for Refusal {
+    ghost output = { λ refusal. Some (refusal_text refusal) };
+
     fn fmt<W: fmt::Write>(&self, f: &mut fmt::Formatter<W>) -> fmt::Result {
-        let words = match self {
+        f.write_str(match self {
             Refusal::AreaTooShort => "the answer area has under 16 bytes",
             Refusal::UnknownCode => "the input is empty or starts with no event's code",
             Refusal::InputTooShort => "the input ends before the operands do",
@@ -52,8 +54,7 @@ impl fmt::Display for Refusal {
             Refusal::DialogueNotOpen => "the dialogue is not open, or not yet sent",
             Refusal::AlreadyAdmitted => "the subscriber is admitted already",
             Refusal::BackUpTooSmall => "the back-up has too little room",
-        };
-        f.write_str(words)
+        })
     }
 }
 

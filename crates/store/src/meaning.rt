@@ -25,6 +25,7 @@ pub trait RecordStore<K: Key, V: Copy> {
         ensures { result ≡ at (entries self.now) (K.number k) };
 
     /// The smallest key, or the smallest above a given one, which need not be in the map.
+    // A reference, since the kit gives an impl no clauses of its trait where an option of a key is passed by value.
     fn next(&self, above: &Option<K>) -> Option<K>
         ensures { numbered K.number result ≡ first_from (entries self.now) (start (numbered K.number above.now)) };
 

@@ -18,10 +18,10 @@ impl<S: RecordStore<Imsi, Record>> Vlr<S> {
     }
 
     /// The first subscriber with a record, or the first above a given one.
-    pub fn next_subscriber(&self, above: &Option<Imsi>) -> Option<Imsi>
-        ensures { numbered (λ k. k.number) result ≡ first_from self.now.records (start (numbered (λ k. k.number) above.now)) }
+    pub fn next_subscriber(&self, above: Option<Imsi>) -> Option<Imsi>
+        ensures { numbered (λ k. k.number) result ≡ first_from self.now.records (start (numbered (λ k. k.number) above)) }
     {
-        self.store.next(above)
+        self.store.next(&above)
     }
 
     /// The open dialogue of a number, if there is one.
