@@ -32,6 +32,7 @@ impl TryFrom<u8> for Auth {
 }
 
 /// A contact with a record: `only` is what is kept where authentication failed.
+// `wanted` and `busy` come as they are: no dialogue opens where authentication failed, whatever they say.
 fn plan_contact(
     only: Option<Record>,
     record: Record,

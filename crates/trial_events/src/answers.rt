@@ -1,4 +1,5 @@
 //! Answers written to areas of every length about sixteen.
+// Where a loop goes over numbers, the number is the case that is tried.
 #[cfg(test)]
 mod tests {
     use event::{Answer, Handling, Ignored, Kind, Opened, Reply, Subject};

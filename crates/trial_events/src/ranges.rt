@@ -1,4 +1,5 @@
 //! Both ends of every operand's range.
+// Where a loop goes over numbers, the number is the case that is tried.
 #[cfg(test)]
 mod tests {
     use crate::samples::*;

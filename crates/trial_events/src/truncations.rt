@@ -1,4 +1,5 @@
 //! Every event cut short at every byte, and with bytes behind it.
+// Where a loop goes over numbers, the number is the case that is tried.
 #[cfg(test)]
 mod tests {
     use crate::samples::*;

@@ -1,4 +1,5 @@
 //! Saving and reloading at each fill, beside two maps.
+// Where a loop goes over numbers, the number is the case that is tried.
 use crate::drill::{Arrival, Drill, compare, widest};
 use crate::plain::PlainMap;
 use key::{Key, Refusal};

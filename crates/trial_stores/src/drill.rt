@@ -1,4 +1,5 @@
 //! One drill for every record store: at each fill from empty to full, keys are taken, dropped and taken again.
+// Where a loop goes over numbers, the number is the case that is tried.
 use crate::plain::PlainMap;
 use key::{Key, Refusal};
 use std::alloc::Global;
@@ -37,6 +38,7 @@ pub fn widest<K: Key>() -> u64 {
 
 /// The key at a place of the drill. The keys are `spread` apart, from 0 on.
 fn key_at<K: Key>(place: u64, spread: u64) -> Result<K, Fail> {
+    // `ok_or` on an optional key that has a ghost field is not covered by the prover
     let Some(k) = K::from_number(place.wrapping_mul(spread)) else {
         return Err(Fail::new("the drill's keys are spread too far"));
     };

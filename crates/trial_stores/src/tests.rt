@@ -1,4 +1,5 @@
 //! Rows, the tree, and stores with a back-up made of either, against the library's map.
+// Where a loop goes over numbers, the number is the case that is tried.
 use crate::backing::every_fill_backed;
 use crate::drill::{every_fill_of, largest_room};
 use key::{Imsi, Key, Tmsi};
