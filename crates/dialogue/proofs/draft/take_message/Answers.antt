@@ -13,15 +13,6 @@ rejected_stays : (gs : List (List ℕ)) → fold one_more None gs ≡ None
 rejected_stays [] = refl
 rejected_stays (g ∷ gs) = rejected_stays gs
 
-pub loop-bytes-preserved : goal.loop-bytes-preserved
-loop-bytes-preserved c =
-    let gs = c.as_chunks.result.0.now in
-    let i = c.loop-bytes.bytes-index in
-    let now : Progress = record { draft = c.loop-bytes.guard.draft.now; ignored = c.loop-bytes.ignored } in
-    let draft-is = c.put.ensures in
-    let ignored-is = c.noted-ignored.ensures in
-    (refl, simp (draft-is, ignored-is) (ap (λ o. fold one_more (with_more o now) (drop (i + 1) gs)) c.in_ok-group.ensures ∙ sym (turn gs i [] now c.loop-bytes-test.true) ∙ c.loop-bytes.invariant.1))
-
 pub returns-in_err-group : goal.returns-in_err-group
 returns-in_err-group c =
     let gs = c.as_chunks.result.0.now in

@@ -1,21 +1,10 @@
-use Rattle.std.proofs.Common.{get_or, Err, sym, refl, ap, ◌∙◌, length-set}
-use Rattle.std.proofs.lemmas.Result.{err_from_is_err_and}
+use Rattle.std.proofs.Common.{get_or, sym, ap, ◌∙◌, length-set}
 use Rattle.store.specs.Model.{at}
 use Rattle.dialogue.specs.Dialogues.{comes}
 use Rattle.dialogue.specs.Listed.{listed, kept_open, met_at, met_by, with_met}
 use Rattle.dialogue.proofs.Listing.{free_row, numbered_put, listed_put, listed-rises, is_live}
 use Rattle.dialogue.proofs.Refusing.{kept-unless_refused}
 use Rattle.dialogue.proofs.table.Table.meet.Goals as goal
-
-pub returns-in_err-i : goal.returns-in_err-i
-returns-in_err-i c =
-    let p = err_from_is_err_and c.from_residual.result c.from_residual.ensures.1 in
-    let n = c.args.number in
-    let none = sym (ap (λ t. at t.by_number n) c.self.view_is) ∙ c.in_err-i.ensures.1 in
-    record {
-      answer = rw (p.1, p.2, none) (ap Err c.in_err-i.ensures.0);
-      after = rw none refl;
-    }
 
 pub invariant_of-self : goal.invariant_of-self
 invariant_of-self c =
