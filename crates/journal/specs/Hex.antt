@@ -1,5 +1,8 @@
 -- Hexadecimal digits, as characters' codes. Assumes nothing.
-use Rattle.std.specs.Prelude.{ℕ, ◌+◌, ◌-◌, ◌*◌, Bool, cond, ◌&&◌, Some, None, Option, nat_le}
+use Rattle.std.specs.Prelude.{ℕ, ◌+◌, ◌-◌, ◌*◌, Bool, cond, ◌&&◌, Some, None, Option, Err, Result, List, [], ◌∷◌, nat_le}
+use Rattle.std.specs.Option.{ok_or}
+use Rattle.journal.specs.declared.fault.Fault.{Fault}
+use Rattle.journal.specs.declared.fault.Fault.TheVariants.{Hexadecimal}
 
 abbrev between : ℕ → ℕ → ℕ → Bool
 between low high c = nat_le low c && nat_le c high
@@ -19,3 +22,10 @@ byte_of (Some h) (Some l) = Some (16 * h + l)
 
 abbrev pub pair_value : ℕ → ℕ → Option ℕ
 pair_value high low = byte_of (digit_value high) (digit_value low)
+
+-- the byte that digits write, which are two
+abbrev pub written : List ℕ → Result ℕ Fault
+written [] = Err Hexadecimal
+written (h ∷ []) = Err Hexadecimal
+written (h ∷ l ∷ []) = ok_or (pair_value h l) Hexadecimal
+written (h ∷ l ∷ x ∷ xs) = Err Hexadecimal

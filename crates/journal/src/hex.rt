@@ -1,6 +1,6 @@
 //! Bytes in hexadecimal.
 ghost use Rattle.std.specs.Prelude.{◌≡◌};
-ghost use Rattle.journal.specs.Hex.{digit_value, pair_value};
+ghost use Rattle.journal.specs.Hex.{digit_value, pair_value, written};
 
 use crate::fault::Fault;
 use std::alloc::Global;
@@ -21,7 +21,9 @@ pub fn hex_pair(high: u8, low: u8) -> Option<u8>
 }
 
 /// The byte of a pair of digits, which the last digit may lack.
-fn byte_of(pair: &[u8]) -> Result<u8, Fault> {
+fn byte_of(pair: &[u8]) -> Result<u8, Fault>
+    ensures { result ≡ written pair.now }
+{
     match pair {
         [high, low] => hex_pair(*high, *low).ok_or(Fault::Hexadecimal),
         _ => Err(Fault::Hexadecimal),
@@ -29,7 +31,7 @@ fn byte_of(pair: &[u8]) -> Result<u8, Fault> {
 }
 
 /// The bytes that words write. A pair of digits may stand in two words.
-pub fn read_bytes(heap: Global, words: SplitWhitespace<'_>) -> Result<Vec<u8>, Fault> {
+pub(crate) fn read_bytes(heap: Global, words: SplitWhitespace<'_>) -> Result<Vec<u8>, Fault> {
     let digits: Vec<u8> = words.flat_map(|word| word.bytes()).collect(heap)?;
     digits.chunks(2).map(byte_of).try_collect(heap)
 }
