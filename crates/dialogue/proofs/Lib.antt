@@ -3,3 +3,4 @@ pub mod Listing
 pub mod Walks
 pub mod Sweep
 pub mod Refusing
+pub mod Order

@@ -11,7 +11,7 @@ use Rattle.dialogue.specs.Dialogues.{is_gone, has_number, is_on, is_from}
 use Rattle.dialogue.specs.Listed.{listed, Numbered, on, OnImsi}
 use Rattle.dialogue.proofs.Listing.{listed_gone, listed_live, is_live}
 
-find_more : (r : Dialogue) (rs : List Dialogue) (n : ℕ) → at (listed (r ∷ rs)) n ≡ cond (has_number n r) (Some r) (at (listed rs) n)
+pub find_more : (r : Dialogue) (rs : List Dialogue) (n : ℕ) → at (listed (r ∷ rs)) n ≡ cond (has_number n r) (Some r) (at (listed rs) n)
 find_more r rs n =
     elim (cases_Bool (is_gone r.stage)) [
       | inl t ↦ rw t (ap (λ es. at es n) (listed_gone r rs t))
@@ -21,7 +21,7 @@ find_more r rs n =
       ])
     ]
 
-has_more : (imsi : ℕ) (kind : Kind) (r : Dialogue) (rs : List Dialogue) → (is_gone r.stage ≡ false → holds (listed rs) r.number ≡ false) → any (on imsi kind) (listed (r ∷ rs)) ≡ (is_on imsi kind r || any (on imsi kind) (listed rs))
+pub has_more : (imsi : ℕ) (kind : Kind) (r : Dialogue) (rs : List Dialogue) → (is_gone r.stage ≡ false → holds (listed rs) r.number ≡ false) → any (on imsi kind) (listed (r ∷ rs)) ≡ (is_on imsi kind r || any (on imsi kind) (listed rs))
 has_more imsi kind r rs new =
     elim (cases_Bool (is_gone r.stage)) [
       | inl t ↦ rw t (ap (any (on imsi kind)) (listed_gone r rs t))
@@ -45,7 +45,7 @@ unfolding first_from with_entry
 first_with [] k n d = grind (arith, nat_tests)
 first_with (e ∷ es) k n d = let ih = first_with es k n d in grind (arith, nat_tests)
 
-first_more : (r : Dialogue) (rs : List Dialogue) (n : ℕ) → first_from (listed (r ∷ rs)) n ≡ nearer n r (first_from (listed rs) n)
+pub first_more : (r : Dialogue) (rs : List Dialogue) (n : ℕ) → first_from (listed (r ∷ rs)) n ≡ nearer n r (first_from (listed rs) n)
 first_more r rs n =
     elim (cases_Bool (is_gone r.stage)) [
       | inl t ↦ rw t (ap (λ es. first_from es n) (listed_gone r rs t))

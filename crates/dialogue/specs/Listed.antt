@@ -3,7 +3,7 @@ use Rattle.std.specs.Prelude.{◌≡◌, ℕ, ◌+◌, ◌<◌, ◌≤◌, Bool,
 use Rattle.std.specs.List.{AllWithin, HoldsAt}
 use Rattle.key.specs.declared.refusal.Refusal.{Refusal}
 use Rattle.key.specs.declared.refusal.Refusal.TheVariants.{TooManyDialogues, NumbersUsedUp, DialogueNotOpen}
-use Rattle.store.specs.Model.{at, holds, with_entry, without, only}
+use Rattle.store.specs.Model.{keys, rises, at, holds, with_entry, without, only}
 use Rattle.event.specs.declared.answer.Kind.{Kind}
 use Rattle.dialogue.specs.declared.row.Dialogue.{Dialogue}
 use Rattle.dialogue.specs.declared.row.Met.{Met}
@@ -33,6 +33,18 @@ RowSound d ds last = (d.number ≤ last) × (holds (listed ds) d.number ≡ fals
 abbrev pub Numbered : List Dialogue → ℕ → Type 0
 Numbered [] last = Unit {0}
 Numbered (d ∷ ds) last = (is_gone d.stage ≡ false → RowSound d ds last) × Numbered ds last
+
+-- what holds of every table
+pub record Orderly (t : Dialogues) : Type 0 where
+  -- the open dialogues stand in the order of their numbers, and are at most 64
+  pub rising : rises (keys t.by_number) ≡ true
+  pub few : length t.by_number ≤ 64
+  -- a dialogue stands at its own number, which is not above the last used
+  pub its_number : (n : ℕ) (d : Dialogue) → at t.by_number n ≡ Some d → d.number ≡ n
+  pub numbered : (n : ℕ) (d : Dialogue) → at t.by_number n ≡ Some d → n ≤ t.last
+  -- it is not gone, and is on an IMSI
+  pub still_open : (n : ℕ) (d : Dialogue) → at t.by_number n ≡ Some d → is_gone d.stage ≡ false
+  pub on_imsi : (n : ℕ) (d : Dialogue) → at t.by_number n ≡ Some d → d.imsi < 1000000000000000
 
 -- what is found is on an IMSI
 abbrev pub OnImsi : Option Dialogue → Type 0

@@ -5,8 +5,15 @@ use Rattle.key.specs.declared.refusal.Refusal.TheVariants.{StoreFull}
 use Rattle.restoration.specs.declared.record.Record.{Record}
 use Rattle.event.specs.declared.answer.Answer.{Answer}
 use Rattle.restoration.specs.declared.plan.Plan.{Plan}
+use Rattle.store.specs.Model.{Lawful}
+use Rattle.dialogue.specs.Listed.{Orderly}
 use Rattle.restoration.specs.State.{State}
 use Rattle.restoration.specs.Steps.{planned_answer, planned_after, keep, has_room}
+
+-- what holds of every register: of its records what holds of every store's, of its dialogues what holds of every table's
+pub record Regular (s : State) : Type 0 where
+  pub records : Lawful 1000000000000000 s.room s.records
+  pub dialogues : Orderly (record { by_number = s.dialogues; last = s.last })
 
 -- whether a record would be taken
 abbrev pub FitsSays : {T : Type 0} → State → ℕ → Option Record → Result T Refusal → Type 0

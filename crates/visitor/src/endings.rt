@@ -1,6 +1,7 @@
 //! The end of a dialogue, and a Reset: the two events that change records because of what a home register tells.
 ghost use Rattle.std.specs.Prelude.{◌≡◌};
 ghost use Rattle.store.specs.Model.{each, tally};
+ghost use Rattle.visitor.specs.Register.{Regular};
 ghost use Rattle.restoration.specs.Steps.{end_answer, end_after, reset_answer, reset_after, concerns, reset_one};
 
 use crate::events::plain;
@@ -36,6 +37,7 @@ impl<S: RecordStore<Imsi, Record>> Vlr<S> {
     pub fn end(&mut self, dialogue: u32, outcome: Outcome) -> Result<Answer, Refusal>
         ensures answer { result ≡ end_answer self.old dialogue outcome }
         ensures after { self.new ≡ end_after self.old dialogue outcome }
+        ensures regular { Regular self.old × Regular self.new }
     {
         let row = self.table.find(dialogue).ok_or(Refusal::DialogueNotOpen)?;
         let imsi = Imsi::new(row.imsi).unwrap();
@@ -49,6 +51,7 @@ impl<S: RecordStore<Imsi, Record>> Vlr<S> {
     pub fn reset(&mut self, id: HlrId) -> Answer
         ensures answer { result ≡ reset_answer self.old id.digits id.value }
         ensures after { self.new ≡ reset_after self.old id.digits id.value }
+        ensures regular { Regular self.old × Regular self.new }
     {
         let count = unlocate(&mut self.store, id);
         plain(Reply::Done, Ignored::NONE, Subject::Records(count))

@@ -3,7 +3,7 @@ ghost use Rattle.std.specs.Prelude.{◌≡◌, Ok};
 ghost use Rattle.event.specs.declared.answer.Reply.TheVariants.{Done, UnidentifiedSubscriber, SystemFailure};
 ghost use Rattle.event.specs.declared.answer.Subject.TheVariants.{Nobody};
 ghost use Rattle.dialogue.specs.Messages.{none_ignored};
-ghost use Rattle.visitor.specs.Register.{Carried};
+ghost use Rattle.visitor.specs.Register.{Carried, Regular};
 ghost use Rattle.restoration.specs.Steps.{found, busy, planned_answer, planned_after, provide, accessed, went_out, registered, updating, reached, plain, insert_answer, insert_after, end_answer, end_after, reset_answer, reset_after, cancel_answer, cancel_after, restart_after};
 
 use crate::register::Vlr;
@@ -25,7 +25,8 @@ impl<S: RecordStore<Imsi, Record>> Vlr<S> {
         plan: P,
     ) -> Result<Answer, Refusal>
         requires { P.IsAlwaysCallable plan }
-        ensures { Carried self.old imsi.number (P.post plan (found self.old imsi.number) (busy self.old imsi.number kind)) result self.new }
+        ensures carried { Carried self.old imsi.number (P.post plan (found self.old imsi.number) (busy self.old imsi.number kind)) result self.new }
+        ensures regular { Regular self.old × Regular self.new }
     {
         let old = self.store.find(imsi);
         let busy = self.table.has(imsi.number(), kind);
@@ -36,6 +37,7 @@ impl<S: RecordStore<Imsi, Record>> Vlr<S> {
     pub fn provide_roaming_number(&mut self, imsi: Imsi) -> Result<Answer, Refusal>
         ensures answer { result ≡ planned_answer self.old imsi.number (provide self.old imsi.number) }
         ensures after { self.new ≡ planned_after self.old imsi.number (provide self.old imsi.number) }
+        ensures regular { Regular self.old × Regular self.new }
     {
         let several = self.several;
         self.planned(imsi, Kind::RestoreData, |old, busy| {
@@ -45,7 +47,8 @@ impl<S: RecordStore<Imsi, Record>> Vlr<S> {
 
     /// How to reach the subscriber; `unknown` is the reply where that is not known.
     fn reach(&self, imsi: Imsi, unknown: Reply) -> Answer
-        ensures { result ≡ reached self.now imsi.number unknown }
+        ensures answer { result ≡ reached self.now imsi.number unknown }
+        ensures regular { Regular self.now }
     {
         plan_reach(unknown, self.store.find(imsi)).answer(imsi.number(), None)
     }
@@ -53,28 +56,32 @@ impl<S: RecordStore<Imsi, Record>> Vlr<S> {
     // Each of the next four is called by its name, and is one line over what they share.
     /// The exchange asks how to reach the called subscriber.
     pub fn call_information(&self, imsi: Imsi) -> Answer
-        ensures { result ≡ reached self.now imsi.number SystemFailure }
+        ensures answer { result ≡ reached self.now imsi.number SystemFailure }
+        ensures regular { Regular self.now }
     {
         self.reach(imsi, Reply::SystemFailure)
     }
 
     /// The exchange asks how to deliver a short message, in version 2.
     pub fn short_message_v2(&self, imsi: Imsi) -> Answer
-        ensures { result ≡ reached self.now imsi.number UnidentifiedSubscriber }
+        ensures answer { result ≡ reached self.now imsi.number UnidentifiedSubscriber }
+        ensures regular { Regular self.now }
     {
         self.reach(imsi, Reply::UnidentifiedSubscriber)
     }
 
     /// The exchange asks how to deliver a short message, in version 1.
     pub fn short_message_v1(&self, imsi: Imsi) -> Answer
-        ensures { result ≡ reached self.now imsi.number SystemFailure }
+        ensures answer { result ≡ reached self.now imsi.number SystemFailure }
+        ensures regular { Regular self.now }
     {
         self.reach(imsi, Reply::SystemFailure)
     }
 
     /// Somebody asks where the subscriber is.
     pub fn location_request(&self, imsi: Imsi) -> Answer
-        ensures { result ≡ reached self.now imsi.number UnidentifiedSubscriber }
+        ensures answer { result ≡ reached self.now imsi.number UnidentifiedSubscriber }
+        ensures regular { Regular self.now }
     {
         self.reach(imsi, Reply::UnidentifiedSubscriber)
     }
@@ -83,6 +90,7 @@ impl<S: RecordStore<Imsi, Record>> Vlr<S> {
     pub fn access(&mut self, imsi: Imsi, auth: Auth, msc: u8, area: u16) -> Result<Answer, Refusal>
         ensures answer { result ≡ planned_answer self.old imsi.number (accessed self.old imsi.number auth msc area) }
         ensures after { self.new ≡ planned_after self.old imsi.number (accessed self.old imsi.number auth msc area) }
+        ensures regular { Regular self.old × Regular self.new }
     {
         self.planned(imsi, Kind::UpdateLocation, |old, busy| {
             plan_access(old, auth, msc, area, busy)
@@ -93,6 +101,7 @@ impl<S: RecordStore<Imsi, Record>> Vlr<S> {
     pub fn outgoing(&mut self, imsi: Imsi, auth: Auth, msc: u8) -> Result<Answer, Refusal>
         ensures answer { result ≡ planned_answer self.old imsi.number (went_out self.old imsi.number auth msc) }
         ensures after { self.new ≡ planned_after self.old imsi.number (went_out self.old imsi.number auth msc) }
+        ensures regular { Regular self.old × Regular self.new }
     {
         self.planned(imsi, Kind::UpdateLocation, |old, busy| {
             plan_outgoing(old, auth, msc, busy)
@@ -109,6 +118,7 @@ impl<S: RecordStore<Imsi, Record>> Vlr<S> {
     ) -> Result<Answer, Refusal>
         ensures answer { result ≡ planned_answer self.old imsi.number (registered self.old imsi.number auth msc area) }
         ensures after { self.new ≡ planned_after self.old imsi.number (registered self.old imsi.number auth msc area) }
+        ensures regular { Regular self.old × Regular self.new }
     {
         self.planned(imsi, Kind::UpdateLocation, |old, busy| {
             plan_registration(old, auth, msc, area, busy)
@@ -119,6 +129,7 @@ impl<S: RecordStore<Imsi, Record>> Vlr<S> {
     pub fn open_update(&mut self, imsi: Imsi) -> Result<Answer, Refusal>
         ensures answer { result ≡ planned_answer self.old imsi.number (updating self.old imsi.number) }
         ensures after { self.new ≡ planned_after self.old imsi.number (updating self.old imsi.number) }
+        ensures regular { Regular self.old × Regular self.new }
     {
         // the name alone gets no proof here, since the function is another crate's
         self.planned(imsi, Kind::StandAlone, |old, busy| plan_update(old, busy))
@@ -128,6 +139,7 @@ impl<S: RecordStore<Imsi, Record>> Vlr<S> {
     pub fn insert(&mut self, dialogue: u32, groups: &[u8]) -> Result<Answer, Refusal>
         ensures answer { result ≡ insert_answer self.old dialogue groups.now }
         ensures after { self.new ≡ insert_after self.old dialogue groups.now }
+        ensures regular { Regular self.old × Regular self.new }
     {
         let row = self.table.find(dialogue).ok_or(Refusal::DialogueNotOpen)?;
         let subject = Subject::Subscriber(row.imsi);
@@ -142,6 +154,7 @@ impl<S: RecordStore<Imsi, Record>> Vlr<S> {
     pub fn cancel(&mut self, imsi: Imsi) -> Answer
         ensures answer { result ≡ cancel_answer self.old imsi.number }
         ensures after { self.new ≡ cancel_after self.old imsi.number }
+        ensures regular { Regular self.old × Regular self.new }
     {
         let subject = Subject::Subscriber(imsi.number());
         if self.store.remove(imsi) {
@@ -156,6 +169,7 @@ impl<S: RecordStore<Imsi, Record>> Vlr<S> {
     pub fn restart(&mut self) -> Answer
         ensures answer { result ≡ plain Done none_ignored Nobody }
         ensures after { self.new ≡ restart_after self.old }
+        ensures regular { Regular self.old × Regular self.new }
     {
         self.store.clear();
         self.table.clear();

@@ -6,6 +6,7 @@ ghost use Rattle.dialogue.specs.Dialogues.{send, withdraw};
 ghost use Rattle.restoration.specs.Steps.{answered, after, sent_out, spending_answer, spending_after};
 ghost use Rattle.restoration.specs.Received.{received, received_after, received_area};
 ghost use Rattle.visitor.specs.Invokes.{direct};
+ghost use Rattle.visitor.specs.Register.{Regular};
 
 use crate::invoke::{Handed, Invoke};
 use crate::register::Vlr;
@@ -20,7 +21,10 @@ impl<S: RecordStore<Imsi, Record>> Vlr<S> {
     fn checked_insert(&mut self, dialogue: u32, count: u8, groups: &[u8]) -> Result<Answer, Refusal>
         ensures answer { result ≡ answered self.old (insert dialogue count groups.now) }
         ensures after { self.new ≡ after self.old (insert dialogue count groups.now) }
+        ensures regular { Regular self.old × Regular self.new }
     {
+        // by this the proof knows what holds of every register, of a refusal too
+        let _ = &self.table;
         if !(1..=6).contains(&count) || groups.len() != GROUP_LENGTH * usize::from(count) {
             return Err(Refusal::OutOfRange);
         }
@@ -31,7 +35,10 @@ impl<S: RecordStore<Imsi, Record>> Vlr<S> {
     fn checked_reset(&mut self, digits: u8, value: u64) -> Result<Answer, Refusal>
         ensures answer { result ≡ answered self.old (reset digits value) }
         ensures after { self.new ≡ after self.old (reset digits value) }
+        ensures regular { Regular self.old × Regular self.new }
     {
+        // by this the proof knows what holds of every register, of a refusal too
+        let _ = &self.table;
         let id = HlrId::new(digits, value).ok_or(Refusal::OutOfRange)?;
         Ok(self.reset(id))
     }
@@ -40,7 +47,10 @@ impl<S: RecordStore<Imsi, Record>> Vlr<S> {
     fn act(&mut self, event: Event<'_>) -> Result<Answer, Refusal>
         ensures answer { result ≡ answered self.old (as_event event.entry) }
         ensures after { self.new ≡ after self.old (as_event event.entry) }
+        ensures regular { Regular self.old × Regular self.new }
     {
+        // by this the proof knows what holds of every register, of a refusal too
+        let _ = &self.table;
         match event {
             Event::ProvideRoamingNumber(imsi) => self.provide_roaming_number(Imsi::try_from(imsi)?),
             Event::CallInformation(imsi) => Ok(self.call_information(Imsi::try_from(imsi)?)),
@@ -81,6 +91,7 @@ impl<S: RecordStore<Imsi, Record>> Vlr<S> {
     pub fn direct(&mut self, event: Event<'_>) -> Result<Handed, Refusal>
         ensures answer { result ≡ direct (answered self.old (as_event event.entry)) }
         ensures after { self.new ≡ after self.old (as_event event.entry) }
+        ensures regular { Regular self.old × Regular self.new }
     {
         self.act(event).map(Handed::of)
     }
@@ -90,6 +101,7 @@ impl<S: RecordStore<Imsi, Record>> Vlr<S> {
     pub fn send(&mut self, invoke: Invoke) -> bool
         ensures answer { result ≡ spending_answer self.old invoke.dialogue send }
         ensures after { self.new ≡ spending_after self.old invoke.dialogue send }
+        ensures regular { Regular self.old × Regular self.new }
     {
         self.table.meet(invoke.spend(), Coming::Send).is_ok()
     }
@@ -98,6 +110,7 @@ impl<S: RecordStore<Imsi, Record>> Vlr<S> {
     pub fn withdraw(&mut self, invoke: Invoke) -> bool
         ensures answer { result ≡ spending_answer self.old invoke.dialogue withdraw }
         ensures after { self.new ≡ spending_after self.old invoke.dialogue withdraw }
+        ensures regular { Regular self.old × Regular self.new }
     {
         self.table.meet(invoke.spend(), Coming::Withdraw).is_ok()
     }
@@ -106,6 +119,7 @@ impl<S: RecordStore<Imsi, Record>> Vlr<S> {
     fn sent(&mut self, event: Event<'_>) -> Result<Answer, Refusal>
         ensures answer { result ≡ answered self.old (as_event event.entry) }
         ensures after { self.new ≡ sent_out (answered self.old (as_event event.entry)) (after self.old (as_event event.entry)) }
+        ensures regular { Regular self.old × Regular self.new }
     {
         let Handed { answer, invoke } = self.direct(event)?;
         if let Some(invoke) = invoke {
@@ -120,7 +134,10 @@ impl<S: RecordStore<Imsi, Record>> Vlr<S> {
         ensures answer { result ≡ received self.old input.now area.old }
         ensures after { self.new ≡ received_after self.old input.now area.old }
         ensures area { area.new ≡ received_area self.old input.now area.old }
+        ensures regular { Regular self.old × Regular self.new }
     {
+        // by this the proof knows what holds of every register, of a refusal too
+        let _ = &self.table;
         if area.len() < ANSWER_LENGTH {
             return Err(Refusal::AreaTooShort);
         }

@@ -2,7 +2,7 @@
 ghost use Rattle.std.specs.Prelude.{◌≡◌};
 ghost use Rattle.restoration.specs.State.{started};
 ghost use Rattle.restoration.specs.Steps.{planned_answer, planned_after};
-ghost use Rattle.visitor.specs.Register.{FitsSays, KeepSays};
+ghost use Rattle.visitor.specs.Register.{FitsSays, KeepSays, Regular};
 
 use dialogue::Table;
 use event::{Answer, Opened};
@@ -20,17 +20,21 @@ pub struct Vlr<S: RecordStore<Imsi, Record>> {
 }
 
 impl<S: RecordStore<Imsi, Record>> Model for Vlr<S> {
+    ghost use Rattle.dialogue.specs.Listed.{Orderly};
     ghost use Rattle.restoration.specs.State.{State};
 
     ghost Value = { State };
 
     ghost view = { λ v. record { records = S.entries v.store; room = S.room v.store; dialogues = v.table.by_number; last = v.table.last; several = v.several } };
+
+    ghost invariant = { λ v. Orderly v.table };
 }
 
 impl<S: RecordStore<Imsi, Record>> Vlr<S> {
     /// A register that goes into service: its store is cleared, and numbers go on after the last one used.
     pub fn start(mut store: S, several: bool, last: u32) -> Vlr<S>
-        ensures { result ≡ started (S.room store) last several }
+        ensures is { result ≡ started (S.room store) last several }
+        ensures regular { Regular result }
     {
         store.clear();
         Vlr {
@@ -49,8 +53,11 @@ impl<S: RecordStore<Imsi, Record>> Vlr<S> {
 
     /// Keeps the record, if there is one.
     pub(crate) fn keep(&mut self, imsi: Imsi, kept: Option<Record>) -> Result<(), Refusal>
-        ensures { KeepSays self.old imsi.number kept result self.new }
+        ensures kept { KeepSays self.old imsi.number kept result self.new }
+        ensures regular { Regular self.old × Regular self.new }
     {
+        // by this the proof knows what holds of every register, of a refusal too
+        let _ = &self.table;
         // a closure that puts leaves what the store is afterwards unproved, so this is no `map_or`
         match kept {
             Some(record) => self.store.put(imsi, record),
@@ -62,6 +69,7 @@ impl<S: RecordStore<Imsi, Record>> Vlr<S> {
     pub(crate) fn carry(&mut self, imsi: Imsi, plan: Plan) -> Result<Answer, Refusal>
         ensures answer { result ≡ planned_answer self.old imsi.number plan }
         ensures after { self.new ≡ planned_after self.old imsi.number plan }
+        ensures regular { Regular self.old × Regular self.new }
     {
         match plan.opens {
             None => {

@@ -1,7 +1,7 @@
 //! A new table, and opening a dialogue in it.
 ghost use Rattle.std.specs.Prelude.{◌≡◌};
 ghost use Rattle.dialogue.specs.Dialogues.{first_stage, opening};
-ghost use Rattle.dialogue.specs.Listed.{none_open, OpenSays, FreeSays, NumberSays};
+ghost use Rattle.dialogue.specs.Listed.{none_open, OpenSays, Orderly, FreeSays, NumberSays};
 
 use crate::data::SubscriberData;
 use crate::row::{Dialogue, Stage};
@@ -69,7 +69,8 @@ impl Table {
     /// No dialogue is open, and numbers go on after the last one used.
     #[tactic(auto, unfolding(crate::specs::Listed::listed))]
     pub fn new(last: u32) -> Table
-        ensures { result ≡ none_open last }
+        ensures is { result ≡ none_open last }
+        ensures table { Orderly result }
     {
         Table {
             rows: [FREE; 64],
@@ -79,7 +80,9 @@ impl Table {
 
     /// Opens a dialogue and answers its number, or refuses and leaves all as it was.
     pub fn open(&mut self, imsi: Imsi, kind: Kind) -> Result<u32, Refusal>
-        ensures { OpenSays result self.old imsi.number kind self.new }
+        ensures opened { OpenSays result self.old imsi.number kind self.new }
+        ensures before { Orderly self.old }
+        ensures table { Orderly self.new }
     {
         let i = free(&self.rows)?;
         let number = number_after(self.last)?;

@@ -1,8 +1,9 @@
-use Rattle.std.proofs.Common.{◌≡◌, ◌<◌, eqb, length, get_or, set, refl, ap, ◌∙◌, arith, eq-eqb, ne_eqb}
+use Rattle.std.proofs.Common.{◌≡◌, ◌<◌, eqb, length, get_or, set, refl, sym, ap, ◌∙◌, arith, eq-eqb, ne_eqb}
 use Rattle.std.proofs.lemmas.List.{set-get_or}
 use Rattle.dialogue.specs.Listed.{listed, without_imsi}
 use Rattle.dialogue.proofs.Listing.{free_row}
 use Rattle.dialogue.proofs.Sweep.{freed, swept, length-swept, numbered-swept, listed-swept, turn_frees, turn_keeps}
+use Rattle.dialogue.proofs.Order.{seen}
 use Rattle.dialogue.proofs.table.Table.close_of.Goals as goal
 use Rattle.dialogue.proofs.table.Table.close_of.Goals.{then-row-imsi, else-row-imsi}
 
@@ -31,6 +32,10 @@ invariant_of-self c =
 pub returns : goal.returns
 returns c =
     let t = c.self.inside in
-    ap (λ rows. record { by_number = listed rows; last = t.last }) c.loop-row.invariant
-    ∙ ap (λ es. record { by_number = es; last = t.last }) (listed-swept (λ r. eqb r.imsi c.args.imsi) c.loop-row.row-index t.rows t.last (omega (arith, c.self.invariant.0)) c.self.invariant.1)
-    ∙ ap (λ v. without_imsi v c.args.imsi) c.self.view_is
+    let swept_rows = swept (λ r. eqb r.imsi c.args.imsi) c.loop-row.row-index t.rows in
+    let is = ap (λ rows. record { by_number = listed rows; last = t.last }) c.loop-row.invariant in
+    record {
+      after = is ∙ ap (λ es. record { by_number = es; last = t.last }) (listed-swept (λ r. eqb r.imsi c.args.imsi) c.loop-row.row-index t.rows t.last (omega (arith, c.self.invariant.0)) c.self.invariant.1) ∙ ap (λ v. without_imsi v c.args.imsi) c.self.view_is;
+      before = seen c.self.inside.rows c.self.inside.last c.args.self.now c.self.view_is c.self.invariant;
+      table = seen swept_rows t.last _ (sym is) (length-swept (λ r. eqb r.imsi c.args.imsi) c.loop-row.row-index t.rows ∙ c.self.invariant.0, numbered-swept (λ r. eqb r.imsi c.args.imsi) c.loop-row.row-index t.rows t.last c.self.invariant.1);
+    }

@@ -5,6 +5,7 @@ use Rattle.std.proofs.lemmas.Iterator.Search.{find_from_yields_List}
 use Rattle.store.specs.Model.{at}
 use Rattle.dialogue.specs.Dialogues.{has_number}
 use Rattle.dialogue.proofs.Walks.{find_of, low_find}
+use Rattle.dialogue.proofs.Order.{seen}
 use Rattle.dialogue.proofs.table.Table.find.Goals as goal
 
 pub returns : goal.returns
@@ -17,4 +18,5 @@ returns c =
     record {
       found = first ∙ sym (find_of rows n) ∙ ap (λ t. at t.by_number n) c.self.view_is;
       on_imsi = rw first (low_find rows c.self.inside.last n c.self.invariant.1);
+      table = seen c.self.inside.rows c.self.inside.last c.args.self.now c.self.view_is c.self.invariant;
     }

@@ -6,6 +6,7 @@ use Rattle.store.specs.Model.{any}
 use Rattle.dialogue.specs.Dialogues.{is_on}
 use Rattle.dialogue.specs.Listed.{on}
 use Rattle.dialogue.proofs.Walks.{any_of}
+use Rattle.dialogue.proofs.Order.{seen}
 use Rattle.dialogue.proofs.table.Table.has.Goals as goal
 
 pub returns : goal.returns
@@ -16,4 +17,7 @@ returns c =
     let walked : c.any.result ≡ list_any (is_on imsi kind) t.rows =
     any_from_yields_List (is_on imsi kind) _ _ c.any.result c.any.ensures.ran (YieldsList-from_slice t.rows cc) (λ x b q k. search (rules, tests))
     in
-    walked ∙ sym (any_of t.rows t.last imsi kind c.self.invariant.1) ∙ ap (λ v. any (on imsi kind) v.by_number) c.self.view_is
+    record {
+      answer = walked ∙ sym (any_of t.rows t.last imsi kind c.self.invariant.1) ∙ ap (λ v. any (on imsi kind) v.by_number) c.self.view_is;
+      table = seen c.self.inside.rows c.self.inside.last c.args.self.now c.self.view_is c.self.invariant;
+    }

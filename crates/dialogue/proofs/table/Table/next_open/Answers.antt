@@ -7,6 +7,7 @@ use Rattle.std.proofs.lemmas.Iterator.Adapters.{option_map_id}
 use Rattle.store.specs.Model.{first_from, start}
 use Rattle.dialogue.specs.Dialogues.{is_from}
 use Rattle.dialogue.proofs.Walks.{first_of}
+use Rattle.dialogue.proofs.Order.{seen}
 use Rattle.dialogue.proofs.table.Table.next_open.Goals as goal
 
 pub returns : goal.returns
@@ -19,4 +20,7 @@ returns c =
     )
     in
     let walked : c.min.result ≡ reduce min (map (λ d. d.number) (filter (is_from n) rows)) = sym (option_map_id c.min.result) ∙ least in
-    walked ∙ sym (first_of rows n) ∙ ap (λ t. first_from t.by_number n) c.self.view_is
+    record {
+      answer = walked ∙ sym (first_of rows n) ∙ ap (λ t. first_from t.by_number n) c.self.view_is;
+      table = seen c.self.inside.rows c.self.inside.last c.args.self.now c.self.view_is c.self.invariant;
+    }
