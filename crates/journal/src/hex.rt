@@ -31,7 +31,21 @@ fn byte_of(pair: &[u8]) -> Result<u8, Fault>
 }
 
 /// The bytes that words write. A pair of digits may stand in two words.
+// A pair is read as soon as it is whole, so that a long line takes no memory for its digits.
 pub(crate) fn read_bytes(heap: Global, words: SplitWhitespace<'_>) -> Result<Vec<u8>, Fault> {
-    let digits: Vec<u8> = words.flat_map(|word| word.bytes()).collect(heap)?;
-    digits.chunks(2).map(byte_of).try_collect(heap)
+    let mut bytes = Vec::new(heap);
+    let mut half = None;
+    for digit in words.flat_map(|word| word.bytes()) {
+        half = match half {
+            Some(high) => {
+                bytes.push(byte_of(&[high, digit])?)?;
+                None
+            }
+            None => Some(digit),
+        };
+    }
+    if let Some(digit) = half {
+        byte_of(&[digit])?;
+    }
+    Ok(bytes)
 }
