@@ -196,7 +196,7 @@ reads_form (reset digits value) s rest is range = coded s _ 12 is ∙ reads_rese
 reads_form (cancel k) s rest is range = coded s _ 13 is ∙ reads_subscriber cancel k _ rest range refl
 reads_form restart s rest is range = coded s _ 14 is
 
-exactly_laid : (s : List ℕ) → AllBelowBase 256 s → ExactlyLaid s (decoded s)
+pub exactly_laid : (s : List ℕ) → AllBelowBase 256 s → ExactlyLaid s (decoded s)
 exactly_laid s ok e n = (
   λ h. subst (Stands s) h (stands s ok),
   λ l. reads_form e s l.rest l.begins l.in_range ∙ ap (λ n. Ok (e, n)) (size_is e ∙ sym l.long),

@@ -2,7 +2,7 @@
 use Rattle.std.proofs.Common.{◌≡◌, ℕ, zero, suc, ◌+◌, ◌^◌, ◌≤◌, List, [], ◌∷◌, length, Some, None, Option, sym, refl, ap, ◌∙◌, subst, ⊎_elim, arith}
 use Rattle.std.specs.List.{slice_get}
 use Rattle.tree.specs.declared.node.Node.{Node}
-use Rattle.tree.specs.Tree.{Tree, leaf, fork, link, Laid, Inside, Levels, tree_below, node_of, Way}
+use Rattle.tree.specs.Tree.{Tree, leaf, fork, link, Laid, Inside, Levels, tree_below, height, node_of, Way}
 
 module _ {V : Type 0} where
   pub in_high : (h low f : ℕ) (t : Tree V) → Inside h low t → h ≤ f → Levels f t
@@ -29,6 +29,12 @@ module _ {V : Type 0} where
   levels_up h leaf hi = tt
   levels_up zero (fork j k v l r) hi = (subst (Levels zero) (sym hi.0) tt, subst (Levels zero) (sym hi.1) tt)
   levels_up (suc h) (fork j k v l r) hi = (levels_up h l hi.0, levels_up h r hi.1)
+
+  -- so a walk that falls by a level at each turn has no more turns than a key has digits, plus one
+  pub height_short : (h : ℕ) (t : Tree V) → Levels h t → height t ≤ suc h
+  height_short h leaf hi = omega arith
+  height_short zero (fork j k v l r) hi = let a = ap height hi.0 in let b = ap height hi.1 in omega (arith, a, b)
+  height_short (suc h) (fork j k v l r) hi = let a = height_short h l hi.0 in let b = height_short h r hi.1 in omega (arith, a, b)
 
   -- no child is deeper
   pub levels_below : (h j k : ℕ) (v : V) (l r : Tree V) → Levels h (fork j k v l r) → Levels h l × Levels h r

@@ -10,7 +10,7 @@ use Rattle.tree.specs.declared.links.Side.{Side}
 use Rattle.tree.specs.declared.links.Side.TheVariants.{Left, Right}
 use Rattle.tree.specs.declared.node.Node.{Node}
 use Rattle.tree.specs.Feet.{Foot, Bottom}
-use Rattle.tree.specs.Tree.{Tree, leaf, fork, node_of, link, Laid, Inside, occurs, size, one, record_of, Distinct, Levels, tree_below, on}
+use Rattle.tree.specs.Tree.{Tree, leaf, fork, node_of, link, Laid, Inside, occurs, size, height, one, record_of, Distinct, Levels, tree_below, on}
 use Rattle.tree.specs.Writes.{child, with_link}
 use Rattle.tree.proofs.Depths.{levels_below}
 use Rattle.tree.proofs.Ends.{first}
@@ -204,7 +204,7 @@ module _ {V : Type 0} where
       let rr : a.r ≡ leaf = leafed a.r (sym nr ∙ ap (λ (x : Node V). x.right) eq) in
       w.back at a.k a.v leaf under (subst (λ (x : Tree V). Foot x under at a.k a.v leaf under) (sym a.is) (inl (ll, rr, refl, refl, refl, refl, refl)))
 
-  down_left : {ns : List (Node V)} {bits at i : ℕ} {under start : Option Link} {s : Tree V} (n : Node V) → Down ns bits at under s start → slice_get ns at ≡ Some n → n.left ≡ Some i → Down ns bits i (Some (on at Left)) s start
+  pub down_left : {ns : List (Node V)} {bits at i : ℕ} {under start : Option Link} {s : Tree V} (n : Node V) → Down ns bits at under s start → slice_get ns at ≡ Some n → n.left ≡ Some i → Down ns bits i (Some (on at Left)) s start
   down_left {ns} {bits} {at} {i} {under} {start} {s} n w e nl =
       let a = forked ns at w.t w.at-is w.is in
       let node : slice_get ns at ≡ Some (node_of a.k a.v (link a.l) (link a.r)) = a.node in
@@ -219,7 +219,7 @@ module _ {V : Type 0} where
         back = λ m km vm c u f. w.back m km vm (fork at a.k a.v c a.r) u (subst (λ (x : Tree V). Foot x under m km vm (fork at a.k a.v c a.r) u) (sym a.is) (inr (inl (c, f, refl))));
       }
 
-  down_right : {ns : List (Node V)} {bits at i : ℕ} {under start : Option Link} {s : Tree V} (n : Node V) → Down ns bits at under s start → slice_get ns at ≡ Some n → n.right ≡ Some i → Down ns bits i (Some (on at Right)) s start
+  pub down_right : {ns : List (Node V)} {bits at i : ℕ} {under start : Option Link} {s : Tree V} (n : Node V) → Down ns bits at under s start → slice_get ns at ≡ Some n → n.right ≡ Some i → Down ns bits i (Some (on at Right)) s start
   down_right {ns} {bits} {at} {i} {under} {start} {s} n w e nl =
       let a = forked ns at w.t w.at-is w.is in
       let node : slice_get ns at ≡ Some (node_of a.k a.v (link a.l) (link a.r)) = a.node in
@@ -239,8 +239,8 @@ module _ {V : Type 0} where
   down_on n Left w at c = down_left n w at c
   down_on n Right w at c = down_right n w at c
 
-  -- and fewer nodes are below
-  pub down-fewer : {ns : List (Node V)} {bits at i : ℕ} {under start : Option Link} {s : Tree V} (n : Node V) (e : Side) → Down ns bits at under s start → slice_get ns at ≡ Some n → child e n ≡ Some i → size (tree_below (suc bits) ns (Some i)) < size (tree_below (suc bits) ns (Some at))
+  -- and fewer levels are below
+  pub down-fewer : {ns : List (Node V)} {bits at i : ℕ} {under start : Option Link} {s : Tree V} (n : Node V) (e : Side) → Down ns bits at under s start → slice_get ns at ≡ Some n → child e n ≡ Some i → height (tree_below (suc bits) ns (Some i)) < height (tree_below (suc bits) ns (Some at))
   down-fewer {ns} {bits} {at} n e w nt c = rw (← c) (fewer ns bits at w.t n e w.at-is w.is w.high nt)
 
   pub down_begin : {ns : List (Node V)} {bits at : ℕ} {under : Option Link} (s : Tree V) → Some at ≡ link s → Laid ns s → Levels bits s → Down ns bits at under s under

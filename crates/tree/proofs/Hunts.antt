@@ -12,7 +12,7 @@ use Rattle.tree.specs.declared.links.Side.TheVariants.{Left, Right}
 use Rattle.tree.specs.Order.{node_passed, side_passed, lesser, least}
 use Rattle.tree.specs.Writes.{child, low_on}
 use Rattle.tree.specs.State.{WellFormed, tree_of, stored}
-use Rattle.tree.specs.Tree.{Tree, leaf, fork, node_of, link, Laid, Inside, tree_below, size, Levels, Distinct}
+use Rattle.tree.specs.Tree.{Tree, leaf, fork, node_of, link, Laid, Inside, tree_below, height, Levels, Distinct}
 use Rattle.tree.proofs.Above.{next, next-is, least-is}
 use Rattle.tree.proofs.Depths.{tree_high, levels_below, levels_tree}
 use Rattle.tree.proofs.Entries.{yes_lt, no_lt}
@@ -121,8 +121,8 @@ module _ {V : Type 0} where
       go None e = (Right, ap (λ (x : Option ℕ). option_or x n.right) e)
       go (Some j) e = (Left, ap (λ (x : Option ℕ). option_or x n.right) e ∙ sym e)
 
-  -- and fewer nodes are below
-  pub sink-fewer : {ns : List (Node V)} {bits i : ℕ} {at best goal : Option ℕ} (n : Node V) → Sink ns bits at best goal → at ≡ Some i → slice_get ns i ≡ Some n → size (tree_below (suc bits) ns (option_or n.left n.right)) < size (tree_below (suc bits) ns at)
+  -- and fewer levels are below
+  pub sink-fewer : {ns : List (Node V)} {bits i : ℕ} {at best goal : Option ℕ} (n : Node V) → Sink ns bits at best goal → at ≡ Some i → slice_get ns i ≡ Some n → height (tree_below (suc bits) ns (option_or n.left n.right)) < height (tree_below (suc bits) ns at)
   sink-fewer {ns} {bits} {i} n w e nt = let s = some_side n in rw (s.1, e) (fewer ns bits i w.t n s.0 (sym e ∙ w.at-is) w.is w.high nt)
 
   -- what is left to find, once the walk has come by p: the least of what is still below, which the option says, and of a tree on the right

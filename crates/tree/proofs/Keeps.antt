@@ -48,7 +48,7 @@ module _ {V : Type 0} where
   pub put_full : (q room : ℕ) (es : List (ℕ × V)) → get q es ≡ None → length es ≡ room → takes room es q ≡ false
   put_full q room es g len = let f : holds es q ≡ false = holds-none q es g in let le : room ≤ length es = omega arith in grind (arith, nat_tests)
 
-  after_clear : (limit : ℕ) (ns : List (Node V)) (w : Width) → length ns ≤ 65536 → Digits limit w.bits → Sound limit ns (blank w)
+  pub after_clear : (limit : ℕ) (ns : List (Node V)) (w : Width) → length ns ≤ 65536 → Digits limit w.bits → Sound limit ns (blank w)
   unfolding all_below
   after_clear limit ns w small digits = build limit ns (blank w) (record {
     t = leaf;

@@ -9,11 +9,8 @@ use Rattle.tree.specs.declared.node.Node.{Node}
 use Rattle.tree.specs.declared.search_tree.SearchTree.{SearchTree}
 use Rattle.tree.specs.State.{listed, Chain, WellFormed, tree_of, Sound}
 use Rattle.tree.specs.Tree.{Tree, leaf, fork, node_of, link, Laid, Inside, Distinct, tree_below, occurs, size, pour}
+use Rattle.tree.specs.Cut.{out_none}
 use Rattle.tree.proofs.NewKey.{the_tree}
-
-out_none : {X : Type 0} (o : Option X) → ∥ o ≡ None ∥₁ → o ≡ None
-out_none None h = refl
-out_none (Some x) h = absurd (∥∥₁_elim h (hlevel props) (λ e. cc))
 
 module _ {V : Type 0} where
   out_leaf : (t : Tree V) → ∥ t ≡ leaf ∥₁ → t ≡ leaf

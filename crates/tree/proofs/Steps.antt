@@ -9,7 +9,7 @@ use Rattle.tree.specs.declared.links.Side.{Side}
 use Rattle.tree.specs.declared.links.Side.TheVariants.{Left, Right}
 use Rattle.tree.specs.declared.node.Node.{Node}
 use Rattle.tree.specs.Order.{lesser, least}
-use Rattle.tree.specs.Tree.{Tree, leaf, fork, node_of, link, Laid, Inside, Levels, place_of, last_link, tree_below, size, on}
+use Rattle.tree.specs.Tree.{Tree, leaf, fork, node_of, link, Laid, Inside, Levels, place_of, last_link, tree_below, height, on}
 use Rattle.tree.specs.Writes.{child, low_on}
 use Rattle.tree.proofs.Above.{next}
 use Rattle.tree.proofs.Depths.{in_high, tree_high, levels_below}
@@ -25,10 +25,10 @@ half_next zero = refl
 half_next (suc h) = omega (arith, two-pow-succ h)
 
 -- which side was taken
-went_left : (q m : ℕ) (s : Side) → s ≡ cond (ltb q m) Left Right → s ≡ Left → q < m
+pub went_left : (q m : ℕ) (s : Side) → s ≡ cond (ltb q m) Left Right → s ≡ Left → q < m
 went_left q m s e f = ⊎_elim (λ w. w) (λ w. let g : Right ≡ Left = sym (no_lt q m Left Right w) ∙ sym e ∙ f in cc) (cases_lt q m)
 
-went_right : (q m : ℕ) (s : Side) → s ≡ cond (ltb q m) Left Right → s ≡ Right → m ≤ q
+pub went_right : (q m : ℕ) (s : Side) → s ≡ cond (ltb q m) Left Right → s ≡ Right → m ≤ q
 went_right q m s e f = ⊎_elim (λ w. let g : Left ≡ Right = sym (yes_lt q m Left Right w) ∙ sym e ∙ f in cc) (λ w. w) (cases_lt q m)
 
 -- the least of what lies on a side and of what that leaves on its right
@@ -54,17 +54,17 @@ module _ {V : Type 0} where
       let f : Some i ≡ Some j = at in let ij : i ≡ j = cc in
       record { k = k; v = v; l = l; r = r; is = cc; node = rw ij is.0; left_is = is.1; right_is = is.2 }
 
-  -- below a child of a fork there are fewer nodes
-  pub fewer : (ns : List (Node V)) (bits i : ℕ) (t : Tree V) (n : Node V) (s : Side) → Some i ≡ link t → Laid ns t → Levels bits t → slice_get ns i ≡ Some n → size (tree_below (suc bits) ns (child s n)) < size (tree_below (suc bits) ns (Some i))
+  -- below a child of a fork there are fewer levels
+  pub fewer : (ns : List (Node V)) (bits i : ℕ) (t : Tree V) (n : Node V) (s : Side) → Some i ≡ link t → Laid ns t → Levels bits t → slice_get ns i ≡ Some n → height (tree_below (suc bits) ns (child s n)) < height (tree_below (suc bits) ns (Some i))
   fewer ns bits i t n s e is hi at =
       let a = forked ns i t e is in
       let node : slice_get ns i ≡ Some (node_of a.k a.v (link a.l) (link a.r)) = a.node in
       let same : node_of a.k a.v (link a.l) (link a.r) ≡ n = cc in
       let b = levels_below bits i a.k a.v a.l a.r (subst (Levels bits) a.is hi) in
-      let whole = ap size (ap (tree_below (suc bits) ns) e ∙ tree_high ns bits t hi is ∙ a.is) in
-      let left = ap size (ap (λ (x : Node V). tree_below (suc bits) ns x.left) (sym same) ∙ tree_high ns bits a.l b.0 a.left_is) in
-      let right = ap size (ap (λ (x : Node V). tree_below (suc bits) ns x.right) (sym same) ∙ tree_high ns bits a.r b.1 a.right_is) in
-      elim s as (λ (x : Side). size (tree_below (suc bits) ns (child x n)) < size (tree_below (suc bits) ns (Some i))) [ Left ↦ omega (arith, whole, left) | Right ↦ omega (arith, whole, right) ]
+      let whole = ap height (ap (tree_below (suc bits) ns) e ∙ tree_high ns bits t hi is ∙ a.is) in
+      let left = ap height (ap (λ (x : Node V). tree_below (suc bits) ns x.left) (sym same) ∙ tree_high ns bits a.l b.0 a.left_is) in
+      let right = ap height (ap (λ (x : Node V). tree_below (suc bits) ns x.right) (sym same) ∙ tree_high ns bits a.r b.1 a.right_is) in
+      elim s as (λ (x : Side). height (tree_below (suc bits) ns (child x n)) < height (tree_below (suc bits) ns (Some i))) [ Left ↦ omega (arith, whole, left) | Right ↦ omega (arith, whole, right) ]
 
   -- where a walk to the key q stands: at the top of a subtree whose keys are those of a span
   pub record Stand (ns : List (Node V)) (q bits : ℕ) (at : Option ℕ) (low half h : ℕ) (t : Tree V) : Type 0 where
@@ -86,7 +86,7 @@ module _ {V : Type 0} where
   pub stand_ok : {ns : List (Node V)} {q bits low half h i : ℕ} {at : Option ℕ} {t : Tree V} → Stand ns q bits at low half h t → at ≡ Some i → i < length ns
   stand_ok {ns} {i = i} {t = t} u e = let a = forked ns i t (sym e ∙ u.at-is) u.is in nth_lt ns i _ a.node
 
-  pub stand-fewer : {ns : List (Node V)} {q bits low half h i : ℕ} {at : Option ℕ} {t : Tree V} (n : Node V) (s : Side) → Stand ns q bits at low half h t → at ≡ Some i → slice_get ns i ≡ Some n → size (tree_below (suc bits) ns (child s n)) < size (tree_below (suc bits) ns at)
+  pub stand-fewer : {ns : List (Node V)} {q bits low half h i : ℕ} {at : Option ℕ} {t : Tree V} (n : Node V) (s : Side) → Stand ns q bits at low half h t → at ≡ Some i → slice_get ns i ≡ Some n → height (tree_below (suc bits) ns (child s n)) < height (tree_below (suc bits) ns at)
   stand-fewer {ns} {bits = bits} {low} {h = h} {i} {t = t} n s u e nt = rw e (fewer ns bits i t n s (sym e ∙ u.at-is) u.is (in_high h low bits t u.inside u.within) nt)
 
   -- the step from the node at i, and what the searches from there on come to

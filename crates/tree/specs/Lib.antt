@@ -1,3 +1,4 @@
+pub mod Cut
 pub mod Digits
 pub mod Feet
 pub mod Heads

@@ -1,5 +1,5 @@
 -- The tree that nodes in an array stand for. Assumes nothing.
-use Rattle.std.specs.Prelude.{◌≡◌, ℕ, zero, suc, ◌+◌, ◌^◌, ◌<◌, ◌≤◌, cond, ◌⊎◌, List, [], ◌∷◌, Some, None, Option, ◌==◌, nat_lt}
+use Rattle.std.specs.Prelude.{◌≡◌, ℕ, zero, suc, ◌+◌, ◌^◌, ◌<◌, ◌≤◌, max, cond, ◌⊎◌, List, [], ◌∷◌, Some, None, Option, ◌==◌, nat_lt}
 use Rattle.std.specs.List.{slice_get}
 use Rattle.std.specs.Option.{option_or}
 use Rattle.tree.specs.declared.node.Node.{Node}
@@ -83,6 +83,11 @@ module _ {V : Type 0} where
   abbrev pub size : Tree V → ℕ
   size leaf = 0
   size (fork j k v l r) = 1 + size l + size r
+
+  -- how many levels a tree has
+  abbrev pub height : Tree V → ℕ
+  height leaf = 0
+  height (fork j k v l r) = 1 + max (height l) (height r)
 
   -- the record of a key, wherever it stands in the tree
   abbrev pub record_of : ℕ → Tree V → Option V

@@ -7,7 +7,7 @@ use Rattle.tree.specs.declared.node.Node.{Node}
 use Rattle.tree.specs.Writes.{Released, with_link}
 use Rattle.tree.proofs.free.release.Goals as goal
 
-released : {V : Type 0} (ns : List (Node V)) (m : ℕ) (free : Option ℕ) (d : Node V) → m < length ns → Released ns (set ns m (with_link Left free (get_or ns m d))) m free
+pub released : {V : Type 0} (ns : List (Node V)) (m : ℕ) (free : Option ℕ) (d : Node V) → m < length ns → Released ns (set ns m (with_link Left free (get_or ns m d))) m free
 released ns m free d lt = record { freed = (get_or ns m d, slice_get-get_or ns m d lt, grind (arith, common_steps, gets)); kept = λ x o. grind (arith, common_steps, gets) }
 
 pub returns : goal.returns
