@@ -73,8 +73,8 @@ pub fn plan_access(old: Option<Record>, auth: Auth, msc: u8, area: u16, busy: bo
         msc: Some(msc),
         area: Some(area),
     };
-    let wanted = record.location == Indicator::NotConfirmed;
-    plan_contact(None, record, auth, place, wanted, busy)
+    let untold = record.location == Indicator::NotConfirmed;
+    plan_contact(None, record, auth, place, untold, busy)
 }
 
 /// The handset asks for a service, through an exchange, which tells nothing of its area.
