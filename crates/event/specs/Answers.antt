@@ -1,5 +1,5 @@
 -- The numbers and the words of an answer, case by case, and its sixteen bytes. Assumes nothing.
-use Rattle.std.specs.Prelude.{ℕ, ◌+◌, cond, List, [], ◌∷◌, ◌++◌, length, drop, Some, None, Option, nat_lt, codes}
+use Rattle.std.specs.Prelude.{ℕ, ◌+◌, cond, List, [], ◌∷◌, ◌++◌, length, drop, Some, None, Option, nat_lt, codes, decimal}
 use Rattle.key.specs.Figures.{in_bytes}
 use Rattle.event.specs.declared.answer.Reply.{Reply}
 use Rattle.event.specs.declared.answer.Reply.TheVariants.{Done, UnidentifiedSubscriber, IllegalSubscriber, SystemFailure, DataMissing, UnexpectedDataValue}
@@ -75,3 +75,12 @@ abbrev pub kind_text : Kind → List ℕ
 kind_text RestoreData = codes "restore"
 kind_text UpdateLocation = codes "update"
 kind_text StandAlone = codes "stand-alone"
+
+-- a dialogue that opened, as an answer tells it
+abbrev pub kind_opened_text : Kind → List ℕ
+kind_opened_text RestoreData = codes "Restore Data"
+kind_opened_text UpdateLocation = codes "Update Location"
+kind_opened_text StandAlone = codes "stand-alone update"
+
+abbrev pub opened_text : Opened → List ℕ
+opened_text o = kind_opened_text o.kind ++ codes " opened as dialogue " ++ decimal o.dialogue

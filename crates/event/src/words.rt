@@ -1,7 +1,7 @@
-//! Words for people: events and answers as they are printed. Of a reply and of a kind the words are promised; a sentence that is made of them, with
-//! numbers between, is tested.
+//! Words for people: events and answers as they are printed. The words of a reply, of a kind and of a dialogue that opened are promised; the
+//! sentence of an event or of an answer is tested.
 ghost use Rattle.std.specs.Prelude.{Some};
-ghost use Rattle.event.specs.Answers.{reply_text, kind_text};
+ghost use Rattle.event.specs.Answers.{reply_text, kind_text, opened_text};
 
 use crate::answer::{Answer, Handling, Ignored, Kind, Opened, Reply};
 use crate::events::Event;
@@ -120,6 +120,8 @@ impl fmt::Display for Kind {
 }
 
 impl fmt::Display for Opened {
+    ghost output = { λ opened. Some (opened_text opened) };
+
     fn fmt<W: fmt::Write>(&self, f: &mut fmt::Formatter<W>) -> fmt::Result {
         let dialogue = self.dialogue;
         let kind = match self.kind {
