@@ -16,3 +16,4 @@ pub mod Spares
 pub mod Steps
 pub mod Trees
 pub mod Turns
+pub mod Writes

@@ -21,7 +21,8 @@ impl<S: RecordStore<Imsi, Record>> Vlr<S> {
 
     /// The first subscriber with a record, or the first above a given one.
     pub fn next_subscriber(&self, above: Option<Imsi>) -> Option<Imsi>
-        ensures { numbered (λ k. k.number) result ≡ first_from self.now.records (start (numbered (λ k. k.number) above)) }
+        ensures answer { numbered (λ k. k.number) result ≡ first_from self.now.records (start (numbered (λ k. k.number) above)) }
+        ensures regular { Regular self.now }
     {
         self.store.next(&above)
     }
